@@ -1,0 +1,92 @@
+-- Small laws that the others share.
+--
+-- In order: tests; fill; bytes; items.
+-- Assumes nothing.
+use Prim.Native.Nat.{ℕ, zero, suc, _<_}
+use mathlib.Core.Path.{_≡_, refl, sym, ap, ap₂, _∙_}
+use mathlib.Core.Logic.{_⊎_, inl, inr}
+use mathlib.Core.Bool.{Bool, true, false, _&&_, _||_}
+use mathlib.Core.List.{List, [], _∷_, _++_, map, append-assoc}
+use native.Mathlib.Omega.{arith}
+use lib.Dec.{eqb}
+use lib.ListN.{length, getD, take, drop, replicate}
+use borrow.Author.Tests.{eqb-true, eq-eqb}
+use Rattle.rules.specs.Base.{allIs, joined, All, none, one, Bytes}
+use Rattle.rules.specs.Packet.{Packet}
+use Rattle.rules.specs.Danc.{written, packetsOf}
+
+-- ---- tests
+
+-- two constructors that are never equal give 0 ≡ 1 by `cc`, and anything follows
+pub never : {A : Type 0} → _≡_ {A = ℕ} 0 1 → A
+never e = absurd (omega arith)
+
+pub both : (a b : Bool) → (a && b) ≡ true → (a ≡ true) × (b ≡ true)
+both true b e = (refl, e)
+both false b e = never (cc)
+
+pub either : (a b : Bool) → (a || b) ≡ true → (a ≡ true) ⊎ (b ≡ true)
+either true b e = inl refl
+either false b e = inr e
+
+pub neither : (a b : Bool) → (a || b) ≡ false → (a ≡ false) × (b ≡ false)
+neither true b e = never (cc)
+neither false b e = (refl, e)
+
+pub second-false : (a b : Bool) → b ≡ false → (a && b) ≡ false
+second-false true b e = e
+second-false false b e = refl
+
+-- ---- fill
+
+pub allIs-fill : (v n : ℕ) → allIs v (replicate n v) ≡ true
+allIs-fill v zero = refl
+allIs-fill v (suc n) = rw (eq-eqb v v refl) (allIs-fill v n)
+
+pub fill-allIs : (v : ℕ) (s : List ℕ) → allIs v s ≡ true → s ≡ replicate (length s) v
+fill-allIs v [] e = refl
+fill-allIs v (x ∷ s) e =
+    let w = both (eqb x v) (allIs v s) e in
+    ap₂ (λ (a : ℕ) (t : List ℕ). a ∷ t) (eqb-true x v (w .0)) (fill-allIs v s (w .1))
+
+-- ---- bytes
+
+pub take-bytes : (n : ℕ) (s : List ℕ) → Bytes s → Bytes (take n s)
+take-bytes zero s h i = omega arith
+take-bytes (suc n) [] h i = omega arith
+take-bytes (suc n) (x ∷ s) h zero = h 0
+take-bytes (suc n) (x ∷ s) h (suc i) = take-bytes n s (λ j. h (suc j)) i
+
+pub drop-bytes : (n : ℕ) (s : List ℕ) → Bytes s → Bytes (drop n s)
+drop-bytes zero s h i = h i
+drop-bytes (suc n) [] h i = omega arith
+drop-bytes (suc n) (x ∷ s) h i = drop-bytes n s (λ j. h (suc j)) i
+
+-- numbers below a bound, joined
+pub append-below : (bound : ℕ) (s t : List ℕ) → ((i : ℕ) → getD s i 0 < bound) → ((i : ℕ) → getD t i 0 < bound) → (i : ℕ) → getD (s ++ t) i 0 < bound
+append-below bound [] t h k i = k i
+append-below bound (x ∷ s) t h k zero = h 0
+append-below bound (x ∷ s) t h k (suc i) = append-below bound s t (λ j. h (suc j)) k i
+
+pub later-bytes : (s t : List ℕ) → Bytes (s ++ t) → Bytes t
+later-bytes [] t h = h
+later-bytes (x ∷ s) t h = later-bytes s t (λ j. h (suc j))
+
+-- ---- items
+
+pub joined-append : {A X : Type 0} (gives : X → List A) (xs zs : List X) → joined gives (xs ++ zs) ≡ joined gives xs ++ joined gives zs
+joined-append gives [] zs = refl
+joined-append gives (x ∷ xs) zs =
+    ap (λ (t : List _). gives x ++ t) (joined-append gives xs zs) ∙ sym (append-assoc (gives x) (joined gives xs) (joined gives zs))
+
+pub all-before : {X : Type 0} (P : X → Type 0) (xs zs : List X) → All P (xs ++ zs) → All P xs
+all-before P [] zs g = none
+all-before P (x ∷ xs) zs (one g gs) = one g (all-before P xs zs gs)
+
+pub all-append : {X : Type 0} (P : X → Type 0) (xs zs : List X) → All P xs → All P zs → All P (xs ++ zs)
+all-append P [] zs g h = h
+all-append P (x ∷ xs) zs (one g gs) h = one g (all-append P xs zs gs h)
+
+pub written-back : (ps : List Packet) → packetsOf (map written ps) ≡ ps
+written-back [] = refl
+written-back (p ∷ ps) = ap (λ (qs : List Packet). p ∷ qs) (written-back ps)

@@ -1,0 +1,171 @@
+-- Demands 1 and 2: what laying gives back and the area afterwards meet the contract `Lays`.
+--
+-- In order: laying a sound list's sheet; number 0 only for such a sheet; success; the contract (`lays`); no second area (`laid-one`).
+-- Assumes nothing.
+use Prim.Native.Nat.{ℕ}
+use mathlib.Core.Path.{_≡_, refl, sym, ap, _∙_, subst}
+use mathlib.Core.Bool.{Bool, true, false}
+use mathlib.Core.List.{List, [], map}
+use native.Mathlib.Nat.{le-of-eq}
+use native.Mathlib.Omega.{arith}
+use lib.Dec.{eqb}
+use lib.ListN.{length}
+use borrow.Author.Tests.{eqb-true, eq-eqb}
+use Rattle.rules.specs.Base.{sum}
+use Rattle.rules.specs.Systems.{System, known, system}
+use Rattle.rules.specs.Packet.{Packet}
+use Rattle.rules.specs.Danc.{written, packetsOf}
+use Rattle.rules.specs.Sheet.{systemIn}
+use Rattle.rules.specs.Blocks.{runs, blockSizes, areaSize, scatter, userBytesIn}
+use Rattle.rules.specs.Packings.{isPacking, laidBytes, fits, packsLaid, packsIn}
+use Rattle.rules.specs.Numbers.{Outcome, listed, refused, unless, andThen}
+use Rattle.rules.specs.Laying.{shaped, listTests, laying, laidOf, areaOf, lay, areaAfter}
+use Rattle.rules.specs.Demands.{Asked, Success, Unlaid, Lays}
+use Rattle.rules.specs.declared.Laid.{Laid}
+use Rattle.rules.proofs.Basics.{never, written-back}
+use Rattle.rules.proofs.Blocks.{scatter-length, scatter-outside, gather-scatter, scatter-one, Facts, facts-of}
+use Rattle.rules.proofs.Users.{users-length, users-counted, users-ceiling}
+use Rattle.rules.proofs.Sheets.{system-back, shaped-back, list-read, list-laid, unless-refused, list-refused}
+
+-- the tests of laying on the sheet of a sound list come down to the room
+laying-asked : (k sys : ℕ) (ps : List Packet) (s area : List ℕ) → Asked k sys ps s area
+    → (laying k s area ≡ unless 12 (fits k (blockSizes (system sys)) ps) (listed ps)) × (systemIn s ≡ sys)
+unfolding laying
+laying-asked k sys ps s area a =
+    let y : systemIn s ≡ sys = ap systemIn (a .sheet .whole) ∙ system-back sys ps in (
+      rw (
+        a .packing,
+        ap shaped (a .sheet .whole) ∙ shaped-back sys ps,
+        y,
+        a .sheet .known,
+        eq-eqb (length area) (areaSize (system sys)) (a .own),
+        ap (listTests (system sys)) (a .sheet .whole) ∙ list-read sys ps (system sys) (a .sheet .sound) (a .sheet .few),
+      ),
+      y,
+    )
+
+-- number 0 only for the sheet of a sound list within the limit that fits
+laying-only : (k : ℕ) (s area : List ℕ) (ps : List Packet) → laying k s area ≡ listed ps
+    → Asked k (systemIn s) ps s area × (fits k (blockSizes (system (systemIn s))) ps ≡ true)
+unfolding laying
+laying-only k s area ps e =
+    go (isPacking k) refl (shaped s) refl (known (systemIn s)) refl (eqb (length area) (areaSize y)) refl e
+  where
+    y : System
+    y = system (systemIn s)
+
+    within : List Packet → Outcome
+    within qs = unless 12 (fits k (blockSizes y) qs) (listed qs)
+
+    fitted : (qs : List Packet) (t : Bool) → fits k (blockSizes y) qs ≡ t → unless 12 t (listed qs) ≡ listed ps → (qs ≡ ps) × (fits k (blockSizes y) qs ≡ true)
+    fitted qs true q e = (cc, q)
+    fitted qs false q e = never (cc)
+
+    from-list : isPacking k ≡ true → shaped s ≡ true → known (systemIn s) ≡ true → length area ≡ areaSize y → (o : Outcome) → listTests y s ≡ o
+        → andThen o within ≡ listed ps → Asked k (systemIn s) ps s area × (fits k (blockSizes y) ps ≡ true)
+    from-list p sh kn l (refused n i) q e = never (cc)
+    from-list p sh kn l (listed qs) q e =
+        let w = fitted qs (fits k (blockSizes y) qs) refl e in
+        let z = list-laid s qs kn sh q in
+        subst (λ (rs : List Packet). Asked k (systemIn s) rs s area × (fits k (blockSizes y) rs ≡ true)) (w .0)
+        (record { packing = p; sheet = z; own = l }, w .1)
+
+    go : (a : Bool) → isPacking k ≡ a → (b : Bool) → shaped s ≡ b → (c : Bool) → known (systemIn s) ≡ c → (d : Bool) → eqb (length area) (areaSize y) ≡ d
+        → unless 1 a (unless 2 b (unless 3 c (unless 4 d (andThen (listTests y s) within)))) ≡ listed ps
+        → Asked k (systemIn s) ps s area × (fits k (blockSizes y) ps ≡ true)
+    go false p b q c r d t e = never (cc)
+    go true p false q c r d t e = never (cc)
+    go true p true q false r d t e = never (cc)
+    go true p true q true r false t e = never (cc)
+    go true p true q true r true t e = from-list p q r (eqb-true (length area) (areaSize y) t) (listTests y s) refl e
+
+-- a refusal's number is not 0
+laying-refused : (k : ℕ) (s area : List ℕ) (n i : ℕ) → laying k s area ≡ refused n i → n ≡ 0 → ⊥
+unfolding laying
+laying-refused k s area n i e =
+    unless-refused 1 (isPacking k) _ n i
+    (unless-refused 2 (shaped s) _ n i
+    (unless-refused 3 (known (systemIn s)) _ n i
+    (unless-refused 4 (eqb (length area) (areaSize (system (systemIn s)))) _ n i (from-list (listTests (system (systemIn s)) s) refl) (omega arith)) (omega arith)) (omega arith)) (omega arith) e
+  where
+    from-list : (o : Outcome) → listTests (system (systemIn s)) s ≡ o
+        → andThen o (λ (ps : List Packet). unless 12 (fits k (blockSizes (system (systemIn s))) ps) (listed ps)) ≡ refused n i → n ≡ 0 → ⊥
+    from-list (refused m j) q e = list-refused (system (systemIn s)) s n i (q ∙ e)
+    from-list (listed ps) q e = unless-refused 12 (fits k (blockSizes (system (systemIn s))) ps) (listed ps) n i (λ f. never (cc)) (omega arith) e
+
+-- a list that fits, laid into the frame's own area
+module _ (k sys : ℕ) (ps : List Packet) (s area : List ℕ) (a : Asked k sys ps s area) (f : fits k (blockSizes (system sys)) ps ≡ true) where
+  abbrev y : System
+  y = system sys
+
+  abbrev us : List ℕ
+  us = laidBytes k (blockSizes y) ps
+
+  facts : Facts y
+  facts = facts-of sys (a .sheet .known)
+
+  fits-written : fits k (blockSizes y) (packetsOf (map written ps)) ≡ true
+  fits-written = rw (written-back ps) f
+
+  us-length : length us ≡ sum (blockSizes y)
+  us-length = users-length y (facts .last) (blockSizes y) (facts .packs) (facts .roomy) (facts .whole) k [] (map written ps) fits-written
+
+  success : Success k sys ps area (laidOf k y (listed ps)) (areaOf k y area (listed ps))
+  success =
+      let g : userBytesIn y (scatter (runs y) us area) ≡ us = gather-scatter (areaSize y) (runs y) us area (facts .within) (facts .apart) us-length (a .own) in
+      record {
+        number = refl;
+        place = refl;
+        users = g;
+        others = λ i o. scatter-outside (areaSize y) (runs y) us area i (facts .within) (le-of-eq (sym us-length)) (a .own) o;
+        length = scatter-length (areaSize y) (runs y) us area (facts .within) (le-of-eq (sym us-length)) (a .own) ∙ sym (a .own);
+        bytes = refl;
+        packs = refl;
+        counted =
+            ap (packsIn k (blockSizes y)) g
+            ∙ users-counted y (facts .last) (blockSizes y) (facts .packs) (facts .roomy) (facts .whole) k [] (map written ps) fits-written
+            ∙ ap (packsLaid k (blockSizes y)) (written-back ps);
+        ceiling = users-ceiling y (facts .last) (blockSizes y) (facts .packs) (facts .roomy) (facts .whole) k ps f;
+      }
+
+  -- no second area has these user bytes and the other bytes as they were
+  pub laid-one : (r : Laid) (after : List ℕ) → Success k sys ps area r after → after ≡ areaOf k y area (listed ps)
+  laid-one r after w =
+      scatter-one (areaSize y) (runs y) us area after (facts .within) (facts .apart) us-length (a .own) (w .length ∙ a .own) (w .users) (w .others)
+
+-- ---- the contract
+
+-- the contract of laying follows from its first two fields
+pub lays : (k : ℕ) (s area : List ℕ) (r : Laid) (after : List ℕ) → r ≡ lay k s area → after ≡ areaAfter k s area → Lays k s area r after
+unfolding lay areaAfter
+lays k s area r after er ea =
+    record {
+      answer = er;
+      buffer = ea;
+      demand1 = λ n. unlaid (laying k s area) er ea n;
+      demand2 =
+          record {
+            laid = λ sys ps a f. laid sys ps a f;
+            full = λ sys ps a f. let w = laying-asked k sys ps s area a in er ∙ rw (w .1, w .0, f);
+            only = λ n. only (laying k s area) refl (ap (λ (x : Laid). x .number) er) n;
+          };
+    }
+  where
+    y : System
+    y = system (systemIn s)
+
+    unlaid : (o : Outcome) → r ≡ laidOf k y o → after ≡ areaOf k y area o → (r .number ≡ 0 → ⊥) → Unlaid r area after
+    unlaid (listed ps) p q n = absurd (n (ap (λ (x : Laid). x .number) p))
+    unlaid (refused m i) p q n = record { kept = q; packs = ap (λ (x : Laid). x .packs) p; bytes = ap (λ (x : Laid). x .bytes) p }
+
+    laid : (sys : ℕ) (ps : List Packet) → Asked k sys ps s area → fits k (blockSizes (system sys)) ps ≡ true → Success k sys ps area r after
+    laid sys ps a f =
+        let w = laying-asked k sys ps s area a in
+        let p : r ≡ laidOf k (system sys) (listed ps) = er ∙ rw (w .1, w .0, f) in
+        let q : after ≡ areaOf k (system sys) area (listed ps) = ea ∙ rw (w .1, w .0, f) in
+        rw (p, q) (success k sys ps s area a f)
+
+    only : (o : Outcome) → laying k s area ≡ o → r .number ≡ laidOf k y o .number → r .number ≡ 0
+        → (sys : ℕ) × (ps : List Packet) × Asked k sys ps s area × (fits k (blockSizes (system sys)) ps ≡ true)
+    only (refused m i) q p n = absurd (laying-refused k s area m i q (sym p ∙ n))
+    only (listed ps) q p n = let w = laying-only k s area ps q in (systemIn s, ps, w .0, w .1)

@@ -1,0 +1,15 @@
+-- What follows from the rules.
+pub mod Basics
+pub mod Figures
+pub mod Rows
+pub mod Words
+pub mod Strings
+pub mod Long
+pub mod Blocks
+pub mod Packs
+pub mod Users
+pub mod Sheets
+pub mod Laying
+pub mod Reading
+pub mod Walker
+pub mod Lister

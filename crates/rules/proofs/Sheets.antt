@@ -1,0 +1,359 @@
+-- The sheet of a sound list passes its tests and gives that list back, and a sheet that passes them is the sheet of a sound list.
+--
+-- In order: locations; the sections of a list's sheet; `sheet-read`; the sections of any sheet; `sheet-laid`; `sheet-unique`;
+-- `sheet-room`; refusals.
+-- Assumes nothing.
+use Prim.Native.Nat.{ℕ, zero, suc, _+_, _-_, _*_, _%_, _/_, _≤_, _<_}
+use mathlib.Core.Path.{_≡_, refl, sym, ap, ap₂, _∙_, subst}
+use mathlib.Core.Logic.{_↔_}
+use mathlib.Core.Bool.{Bool, true, false, cond, _&&_}
+use mathlib.Core.List.{List, [], _∷_, _++_, map, append-assoc}
+use native.Mathlib.Omega.{arith}
+use lib.Dec.{eqb, ltb, leb}
+use lib.ListN.{length, getD, take, drop, length-append, length-map, length-drop, take-append-drop}
+use lib.Seq.{getD-drop, getD-at, take-at, drop-at, drop-drop, drop-cons, length-take-le}
+use borrow.Author.Tests.{eqb-true, leb-true, ltb-true, eq-eqb, le-leb, lt-ltb}
+use Rattle.rules.specs.Base.{All, none, one, Bytes}
+use Rattle.rules.specs.Systems.{System, known, system, stands}
+use Rattle.rules.specs.Packet.{Packet, body, ones, parity, word, sum9, check, coded, checkOf, words, Sound}
+use Rattle.rules.specs.Danc.{stringBytes}
+use Rattle.rules.specs.Sheet.{limit, locations, allWords, sheetOf, systemIn, countIn, locationsIn, wordCountIn, wordsIn}
+use Rattle.rules.specs.Numbers.{Outcome, listed, refused, unless, andThen}
+use Rattle.rules.specs.Laying.{packetsOfWords, shaped, locationsStand, located, listTests, sheetTests}
+use Rattle.rules.specs.Demands.{SheetOf}
+use Rattle.rules.proofs.Basics.{never, both, append-below}
+use Rattle.rules.proofs.Words.{bare, bares, words-read, WordsOf, words-laid, words-room, words-refused}
+
+-- ---- locations
+
+locations-length : (ps : List Packet) → length (locations ps) ≡ 2 * length ps
+locations-length [] = refl
+locations-length (p ∷ ps) = let k = locations-length ps in omega arith
+
+located-back : (ps : List Packet) → located (locations ps) (bares ps) ≡ ps
+located-back [] = refl
+located-back (p ∷ ps) = ap (λ (t : List Packet). p ∷ t) (located-back ps)
+
+locations-stand : (y : System) (i : ℕ) (ps : List Packet) (o : Outcome) → All (Sound y) ps → locationsStand y i (locations ps) o ≡ o
+locations-stand y i [] o g = refl
+locations-stand y i (p ∷ ps) o (one g gs) = rw (g .line, lt-ltb (p .flags) 4 (g .flags)) (locations-stand y (suc i) ps o gs)
+
+-- ---- the sections of a list's sheet
+
+module _ (sys : ℕ) (ps : List Packet) where
+  abbrev S : List ℕ
+  S = sheetOf sys ps
+
+  abbrev W : List ℕ
+  W = allWords ps
+
+  behind : drop 3 S ≡ locations ps ++ length W ∷ W
+  unfolding sheetOf
+  behind = refl
+
+  pub system-back : systemIn S ≡ sys
+  unfolding sheetOf
+  system-back = refl
+
+  first-back : eqb (getD S 0 0) 1 ≡ true
+  unfolding sheetOf
+  first-back = refl
+
+  count-back : countIn S ≡ length ps
+  unfolding sheetOf
+  count-back = refl
+
+  locations-back : locationsIn S ≡ locations ps
+  locations-back = rw (count-back, behind) (take-at (locations ps) (length W ∷ W) (2 * length ps) (locations-length ps))
+
+  words-back : wordsIn S ≡ W
+  words-back =
+      let n : 4 + 2 * length ps ≡ 3 + suc (2 * length ps) = omega arith in
+      let l = locations-length ps in
+      rw (count-back, n, ← drop-drop (suc (2 * length ps)) 3 S, behind, ← append-assoc (locations ps) (length W ∷ []) W)
+      (drop-at (locations ps ++ (length W ∷ [])) W (suc (2 * length ps)) (length-append (locations ps) (length W ∷ []) ∙ (omega arith)))
+
+  word-count-back : wordCountIn S ≡ length W
+  word-count-back =
+      ap (λ (n : ℕ). getD S (3 + 2 * n) 0) count-back
+      ∙ sym (getD-drop 3 S (2 * length ps) 0)
+      ∙ ap (λ (t : List ℕ). getD t (2 * length ps) 0) behind
+      ∙ getD-at (locations ps) (length W) W 0 (2 * length ps) (locations-length ps)
+
+  -- "A sheet has 4 + 2P + W numbers."
+  pub sheet-length : length S ≡ 4 + 2 * length ps + stringBytes ps
+  unfolding sheetOf
+  sheet-length =
+      let k = locations-length ps in
+      let l = length-append (locations ps) (length W ∷ W) in
+      let w = words-room ps in
+      omega arith
+
+  pub shaped-back : shaped S ≡ true
+  unfolding shaped
+  shaped-back =
+      let l = sheet-length in
+      let w = words-room ps in
+      rw (first-back, word-count-back, count-back, le-leb (4 + 2 * length ps) (length S) (omega arith), eq-eqb (length S) (4 + 2 * length ps + length W) (omega arith))
+
+  -- what is laid is read: tests 5 to 11
+  pub list-read : (y : System) → All (Sound y) ps → length ps ≤ limit → listTests y S ≡ listed ps
+  unfolding listTests
+  list-read y g few =
+      rw (
+        locations-back,
+        words-back,
+        count-back,
+        le-leb (length ps) limit few,
+        words-read y ps g,
+        eq-eqb (length (bares ps)) (length ps) (length-map ps bare),
+        located-back ps,
+      )
+      (locations-stand y 0 ps (listed ps) g)
+
+-- and all of the lister's
+pub sheet-read : (sys : ℕ) (ps : List Packet) (s : List ℕ) → SheetOf sys ps s → sheetTests s ≡ listed ps
+unfolding sheetTests
+sheet-read sys ps s g = rw (g .whole, shaped-back sys ps, system-back sys ps, g .known) (list-read sys ps (system sys) (g .sound) (g .few))
+
+-- ---- the sections of any sheet
+
+-- locations that stand, each with its packet, are those packets' locations, and leave their words as they were
+module _ (y : System) where
+  stood : (i : ℕ) (ls : List ℕ) (o : Outcome) (ps : List Packet) → locationsStand y i ls o ≡ listed ps → o ≡ listed ps
+  stood i [] o ps e = e
+  stood i (l ∷ []) o ps e = e
+  stood i (l ∷ f ∷ ls) o ps e = go (stands y l && ltb f 4) (λ q. stood (suc i) ls o ps q) e
+    where
+      go : (t : Bool) → (locationsStand y (suc i) ls o ≡ listed ps → o ≡ listed ps) → cond t (locationsStand y (suc i) ls o) (refused 6 i) ≡ listed ps → o ≡ listed ps
+      go true ih e = ih e
+      go false ih e = never (cc)
+
+  -- what the packets of a list are with these locations
+  pub record Located (ls : List ℕ) (qs : List Packet) : Type 0 where
+    pub locations : locations (located ls qs) ≡ ls
+    pub words : allWords (located ls qs) ≡ allWords qs
+    pub count : length (located ls qs) ≡ length qs
+    pub sound : All (Sound y) (located ls qs)
+
+  placed : (q : Packet) (l f : ℕ) → Sound y q → stands y l ≡ true → f < 4
+      → Sound y (record { did = q .did; sdid = q .sdid; user = q .user; line = l; flags = f })
+  placed q l f g h k = record { did = g .did; sdid = g .sdid; user = g .user; many = g .many; line = h; flags = k }
+
+  locate : (i : ℕ) (ls : List ℕ) (qs : List Packet) (o : Outcome) (ps : List Packet) → length ls ≡ 2 * length qs → All (Sound y) qs
+      → locationsStand y i ls o ≡ listed ps → Located ls qs
+  unfolding words coded checkOf
+  locate i [] [] o ps h g e = record { locations = refl; words = refl; count = refl; sound = none }
+  locate i [] (q ∷ qs) o ps h g e = absurd (omega arith)
+  locate i (l ∷ []) [] o ps h g e = absurd (omega arith)
+  locate i (l ∷ []) (q ∷ qs) o ps h g e = absurd (omega arith)
+  locate i (l ∷ f ∷ ls) [] o ps h g e = absurd (omega arith)
+  locate i (l ∷ f ∷ ls) (q ∷ qs) o ps h (one g gs) e = go (stands y l && ltb f 4) refl (λ d. locate (suc i) ls qs o ps (omega arith) gs d) e
+    where
+      go : (t : Bool) → (stands y l && ltb f 4) ≡ t → (locationsStand y (suc i) ls o ≡ listed ps → Located ls qs)
+          → cond t (locationsStand y (suc i) ls o) (refused 6 i) ≡ listed ps → Located (l ∷ f ∷ ls) (q ∷ qs)
+      go false d ih e = never (cc)
+      go true d ih e =
+          let w = ih e in
+          let v = both (stands y l) (ltb f 4) d in
+          record {
+            locations = ap (λ (t : List ℕ). l ∷ f ∷ t) (w .locations);
+            words = ap (λ (t : List ℕ). Rattle.rules.specs.Packet.words q ++ t) (w .words);
+            count = ap suc (w .count);
+            sound = one (placed q l f g (v .0) (ltb-true f 4 (v .1))) (w .sound);
+          }
+
+-- a sheet is of the shape that document 01 gives: its own sections joined
+shape-of : (s : List ℕ) → shaped s ≡ true
+    → (s ≡ (1 ∷ systemIn s ∷ countIn s ∷ locationsIn s) ++ length (wordsIn s) ∷ wordsIn s) × (length (locationsIn s) ≡ 2 * countIn s)
+unfolding shaped
+shape-of s e =
+    let w = both (eqb (getD s 0 0) 1) (leb (4 + 2 * countIn s) (length s) && eqb (length s) (4 + 2 * countIn s + wordCountIn s)) e in
+    let v = both (leb (4 + 2 * countIn s) (length s)) (eqb (length s) (4 + 2 * countIn s + wordCountIn s)) (w .1) in
+    go s (eqb-true (getD s 0 0) 1 (w .0)) (leb-true (4 + 2 * countIn s) (length s) (v .0)) (eqb-true (length s) (4 + 2 * countIn s + wordCountIn s) (v .1))
+  where
+    go : (s : List ℕ) → getD s 0 0 ≡ 1 → 4 + 2 * countIn s ≤ length s → length s ≡ 4 + 2 * countIn s + wordCountIn s
+        → (s ≡ (1 ∷ systemIn s ∷ countIn s ∷ locationsIn s) ++ length (wordsIn s) ∷ wordsIn s) × (length (locationsIn s) ≡ 2 * countIn s)
+    go [] a b c = absurd (omega arith)
+    go (x ∷ []) a b c = absurd (omega arith)
+    go (x ∷ y ∷ []) a b c = absurd (omega arith)
+    go (x ∷ y ∷ n ∷ t) a b c =
+        let s : List ℕ = x ∷ y ∷ n ∷ t in
+        let l : length (take (2 * n) t) ≡ 2 * n = length-take-le (2 * n) t (omega arith) in
+        let wc : wordCountIn s ≡ getD t (2 * n) 0 = sym (getD-drop 3 s (2 * n) 0) in
+        let e : 4 + 2 * n ≡ 3 + suc (2 * n) = omega arith in
+        let ws : wordsIn s ≡ drop (suc (2 * n)) t = ap (λ (k : ℕ). drop k s) e ∙ sym (drop-drop (suc (2 * n)) 3 s) in
+        let lw : length (wordsIn s) ≡ length s - (4 + 2 * n) = length-drop (4 + 2 * n) s in
+        let lc : getD t (2 * n) 0 ≡ length (wordsIn s) = omega arith in
+        let rest : drop (2 * n) t ≡ length (wordsIn s) ∷ wordsIn s =
+        drop-cons t (2 * n) 0 (omega arith) ∙ ap₂ (λ (a : ℕ) (u : List ℕ). a ∷ u) lc (sym ws) in (
+          ap₂ (λ (k : ℕ) (u : List ℕ). k ∷ y ∷ n ∷ u) a (sym (take-append-drop (2 * n) t) ∙ ap (λ (u : List ℕ). take (2 * n) t ++ u) rest),
+          l,
+        )
+
+-- ---- what is read was laid
+
+-- a sheet that passes the tests is the sheet of the list it gives, which is sound and within the limit
+pub list-laid : (s : List ℕ) (ps : List Packet) → known (systemIn s) ≡ true → shaped s ≡ true → listTests (system (systemIn s)) s ≡ listed ps
+    → SheetOf (systemIn s) ps s
+unfolding listTests sheetOf
+list-laid s ps kn sh e = first (leb (countIn s) limit) refl e
+  where
+    y : System
+    y = system (systemIn s)
+
+    ls : List ℕ
+    ls = locationsIn s
+
+    paired : List Packet → Outcome
+    paired qs = unless 11 (eqb (length qs) (countIn s)) (listed (located ls qs))
+
+    last : (qs : List Packet) → WordsOf y (wordsIn s) qs → countIn s ≤ limit → locationsStand y 0 ls (paired qs) ≡ listed ps
+        → (t : Bool) → eqb (length qs) (countIn s) ≡ t → unless 11 t (listed (located ls qs)) ≡ listed ps → SheetOf (systemIn s) ps s
+    last qs w few e false q f = never (cc)
+    last qs w few e true q f =
+        let n : length qs ≡ countIn s = eqb-true (length qs) (countIn s) q in
+        let sp = shape-of s sh in
+        let lo = locate y 0 ls qs (paired qs) ps (sp .1 ∙ ap (λ (k : ℕ). 2 * k) (sym n)) (w .sound) e in
+        let a : countIn s ≡ length (located ls qs) = sym n ∙ sym (lo .count) in
+        let b : ls ≡ locations (located ls qs) = sym (lo .locations) in
+        let c : wordsIn s ≡ allWords (located ls qs) = w .whole ∙ sym (lo .words) in
+        let is : located ls qs ≡ ps = cc in
+        subst (λ (rs : List Packet). SheetOf (systemIn s) rs s) is
+        (record {
+          known = kn;
+          whole = sp .0 ∙ (λ i. (1 ∷ systemIn s ∷ a i ∷ b i) ++ length (c i) ∷ c i);
+          sound = lo .sound;
+          few = omega arith;
+        })
+
+    words-of : (o : Outcome) → packetsOfWords (wordsIn s) ≡ o → countIn s ≤ limit → locationsStand y 0 ls (andThen o paired) ≡ listed ps
+        → SheetOf (systemIn s) ps s
+    words-of (refused n i) q few e = never (let z = stood y 0 ls (refused n i) ps e in cc)
+    words-of (listed qs) q few e =
+        last qs (words-laid y (wordsIn s) qs q) few e (eqb (length qs) (countIn s)) refl (stood y 0 ls (paired qs) ps e)
+
+    first : (t : Bool) → leb (countIn s) limit ≡ t → unless 5 t (locationsStand y 0 ls (andThen (packetsOfWords (wordsIn s)) paired)) ≡ listed ps
+        → SheetOf (systemIn s) ps s
+    first false q e = never (cc)
+    first true q e = words-of (packetsOfWords (wordsIn s)) refl (leb-true (countIn s) limit q) e
+
+-- the same of all of the lister's tests
+pub sheet-laid : (s : List ℕ) (ps : List Packet) → sheetTests s ≡ listed ps → SheetOf (systemIn s) ps s
+unfolding sheetTests
+sheet-laid s ps e = go (shaped s) refl (known (systemIn s)) refl e
+  where
+    go : (a : Bool) → shaped s ≡ a → (b : Bool) → known (systemIn s) ≡ b → unless 2 a (unless 3 b (listTests (system (systemIn s)) s)) ≡ listed ps
+        → SheetOf (systemIn s) ps s
+    go false p b q e = never (cc)
+    go true p false q e = never (cc)
+    go true p true q e = list-laid s ps q p e
+
+-- from one list only, of one system
+pub sheet-unique : (sys other : ℕ) (ps qs : List Packet) (s : List ℕ) → SheetOf sys ps s → SheetOf other qs s → (sys ≡ other) × (ps ≡ qs)
+sheet-unique sys other ps qs s g h =
+    let a = sheet-read sys ps s g in
+    let b = sheet-read other qs s h in
+    (sym (system-back sys ps) ∙ ap systemIn (sym (g .whole) ∙ h .whole) ∙ system-back other qs, cc)
+
+-- ---- room
+
+-- every number is of sixteen bits, as a sheet's have to be
+abbrev pub Sixteen : List ℕ → Type 0
+Sixteen s = (i : ℕ) → getD s i 0 < 65536
+
+word-small : (b : ℕ) → b < 256 → word b < 1024
+unfolding word parity
+word-small b h = go (ones b % 2) (bit (ones b))
+  where
+    bit : (n : ℕ) → n % 2 < 2
+    bit n = omega arith
+
+    go : (p : ℕ) → p < 2 → b + 256 * p + 512 * (1 - p) < 1024
+    go p k = omega arith
+
+check-small : (ws : List ℕ) → check ws < 1024
+unfolding check
+check-small ws = go (sum9 ws)
+  where
+    go : (n : ℕ) → n % 512 + 512 * (1 - n % 512 / 256) < 1024
+    go n = omega arith
+
+user-small : (bs : List ℕ) → Bytes bs → Sixteen (map word bs)
+user-small [] h i = omega arith
+user-small (b ∷ bs) h zero = let w = word-small b (h 0) in omega arith
+user-small (b ∷ bs) h (suc i) = user-small bs (λ j. h (suc j)) i
+
+packet-small : (y : System) (p : Packet) → Sound y p → Sixteen (words p)
+unfolding words coded checkOf
+packet-small y p g zero = omega arith
+packet-small y p g (suc zero) = omega arith
+packet-small y p g (suc (suc zero)) = omega arith
+packet-small y p g (suc (suc (suc zero))) = let w = word-small (p .did) (g .did) in omega arith
+packet-small y p g (suc (suc (suc (suc zero)))) = let w = word-small (p .sdid) (g .sdid) in omega arith
+packet-small y p g (suc (suc (suc (suc (suc zero))))) = let w = word-small (length (p .user)) (g .many) in omega arith
+packet-small y p g (suc (suc (suc (suc (suc (suc i)))))) =
+    append-below 65536 (map word (p .user)) (check (map word (body p)) ∷ []) (user-small (p .user) (g .user)) only i
+  where
+    only : Sixteen (check (map word (body p)) ∷ [])
+    only zero = let w = check-small (map word (body p)) in omega arith
+    only (suc i) = omega arith
+
+all-small : (y : System) (ps : List Packet) → All (Sound y) ps → Sixteen (allWords ps)
+all-small y [] g i = omega arith
+all-small y (p ∷ ps) (one g gs) i = append-below 65536 (words p) (allWords ps) (packet-small y p g) (all-small y ps gs) i
+
+locations-small : (y : System) (ps : List Packet) → y .last < 2047 → All (Sound y) ps → Sixteen (locations ps)
+unfolding stands
+locations-small y [] hm g i = omega arith
+locations-small y (p ∷ ps) hm (one g gs) zero = let w = leb-true (p .line) (y .last) (g .line) in omega arith
+locations-small y (p ∷ ps) hm (one g gs) (suc zero) = let w = g .flags in omega arith
+locations-small y (p ∷ ps) hm (one g gs) (suc (suc i)) = locations-small y ps hm gs i
+
+-- a sound list has a sheet of sixteen-bit numbers exactly when its words are at most 65,535
+pub sheet-room : (sys : ℕ) (y : System) (ps : List Packet) → sys < 65536 → y .last < 2047 → All (Sound y) ps → length ps ≤ limit
+    → Sixteen (sheetOf sys ps) ↔ (stringBytes ps < 65536)
+unfolding sheetOf limit
+sheet-room sys y ps hs hm g few = (λ h. there (h (3 + 2 * length ps)), back)
+  where
+    there : getD (sheetOf sys ps) (3 + 2 * length ps) 0 < 65536 → stringBytes ps < 65536
+    there h = let w = word-count-back sys ps in let r = words-room ps in omega arith
+
+    behind-small : stringBytes ps < 65536 → Sixteen (length (allWords ps) ∷ allWords ps)
+    behind-small h zero = let r = words-room ps in omega arith
+    behind-small h (suc i) = all-small y ps g i
+
+    back : stringBytes ps < 65536 → Sixteen (sheetOf sys ps)
+    back h zero = omega arith
+    back h (suc zero) = hs
+    back h (suc (suc zero)) = omega arith
+    back h (suc (suc (suc i))) =
+        append-below 65536 (locations ps) (length (allWords ps) ∷ allWords ps) (locations-small y ps hm g) (behind-small h) i
+
+-- ---- refusals
+
+-- a refusal's number is not 0
+stand-refused : (y : System) (i : ℕ) (ls : List ℕ) (o : Outcome) (n k : ℕ) → (o ≡ refused n k → n ≡ 0 → ⊥) → locationsStand y i ls o ≡ refused n k → n ≡ 0 → ⊥
+stand-refused y i [] o n k h e = h e
+stand-refused y i (l ∷ []) o n k h e = h e
+stand-refused y i (l ∷ f ∷ ls) o n k h e = go (stands y l && ltb f 4) (stand-refused y (suc i) ls o n k h) e
+  where
+    go : (t : Bool) → (locationsStand y (suc i) ls o ≡ refused n k → n ≡ 0 → ⊥) → cond t (locationsStand y (suc i) ls o) (refused 6 i) ≡ refused n k → n ≡ 0 → ⊥
+    go true ih e = ih e
+    go false ih e = let z : 6 ≡ n = cc in omega arith
+
+pub unless-refused : (m : ℕ) (t : Bool) (o : Outcome) (n k : ℕ) → (o ≡ refused n k → n ≡ 0 → ⊥) → 0 < m → unless m t o ≡ refused n k → n ≡ 0 → ⊥
+unless-refused m true o n k h l e = h e
+unless-refused m false o n k h l e = let z : m ≡ n = cc in omega arith
+
+pub list-refused : (y : System) (s : List ℕ) (n k : ℕ) → listTests y s ≡ refused n k → n ≡ 0 → ⊥
+unfolding listTests
+list-refused y s n k e =
+    unless-refused 5 (leb (countIn s) limit) _ n k
+    (stand-refused y 0 (locationsIn s) _ n k (words-of (packetsOfWords (wordsIn s)) refl))
+    (omega arith) e
+  where
+    words-of : (o : Outcome) → packetsOfWords (wordsIn s) ≡ o
+        → andThen o (λ (ps : List Packet). unless 11 (eqb (length ps) (countIn s)) (listed (located (locationsIn s) ps))) ≡ refused n k → n ≡ 0 → ⊥
+    words-of (refused m i) q e = let w = words-refused (wordsIn s) m i q in let z : m ≡ n = cc in omega arith
+    words-of (listed ps) q e = unless-refused 11 (eqb (length ps) (countIn s)) _ n k (λ f. never (cc)) (omega arith) e

@@ -1,0 +1,127 @@
+-- "Numbers given back": the tests of a sheet, and what laying gives back.
+--
+-- In order: the words of a packet (7 to 10); the sheet (2, 5, 6, 11); the lister's tests; laying's (1, 4, 12); its answer.
+-- Assumes nothing.
+use Prim.Native.Nat.{ℕ, suc, _+_, _*_, _%_}
+use mathlib.Core.Bool.{Bool, true, false, cond, not, _&&_, _||_}
+use mathlib.Core.List.{List, [], _∷_, map}
+use lib.Dec.{eqb, ltb, leb}
+use lib.ListN.{length, getD, take, drop}
+use Rattle.rules.specs.Systems.{System, known, system, stands}
+use Rattle.rules.specs.Packet.{Packet, word, check}
+use Rattle.rules.specs.Danc.{stringBytes}
+use Rattle.rules.specs.Sheet.{limit, systemIn, countIn, locationsIn, wordCountIn, wordsIn}
+use Rattle.rules.specs.Blocks.{runs, blockSizes, areaSize, scatter}
+use Rattle.rules.specs.Packings.{isPacking, laidBytes, fits, packsLaid}
+use Rattle.rules.specs.Numbers.{Outcome, listed, refused, unless, andThen, Row, packetsIn}
+use Rattle.rules.specs.declared.Laid.{Laid}
+
+-- ---- the words of a packet
+
+-- "a word .. is .. its low byte with right bits above"
+unfoldable pub isWord : ℕ → Bool
+isWord w = eqb w (word (w % 256))
+
+abbrev pub areWords : List ℕ → Bool
+areWords [] = true
+areWords (w ∷ ws) = isWord w && areWords ws
+
+-- "000h 3FFh 3FFh"
+abbrev pub flagged : List ℕ → Bool
+flagged s = eqb (getD s 0 0) 0x000 && (eqb (getD s 1 0) 0x3FF && eqb (getD s 2 0) 0x3FF)
+
+abbrev pub low : ℕ → ℕ
+low w = w % 256
+
+abbrev pub dcIn : List ℕ → ℕ
+dcIn s = low (getD s 5 0)
+
+-- "Then packet by packet: 7; 8 on DID, SDID and DC; 9; 8 on the user words; 10."
+unfoldable pub wordsFault : List ℕ → ℕ
+wordsFault s =
+    cond (ltb (length s) 7 || not (flagged s)) 7
+    (cond (not (areWords (take 3 (drop 3 s)))) 8
+    (cond (ltb (length s) (dcIn s + 7)) 9
+    (cond (not (areWords (take (dcIn s) (drop 6 s)))) 8
+    (cond (not (eqb (getD s (dcIn s + 6) 0) (check (take (dcIn s + 3) (drop 3 s))))) 10
+    0))))
+
+-- the packet at the front of words; its location is given elsewhere
+abbrev pub packetOfWords : List ℕ → Packet
+packetOfWords s =
+    record { did = low (getD s 3 0); sdid = low (getD s 4 0); user = map low (take (dcIn s) (drop 6 s)); line = 0; flags = 0 }
+
+abbrev pub noWords : List ℕ → Bool
+noWords [] = true
+noWords (w ∷ ws) = false
+
+unfoldable pub wordRow : Row ℕ
+wordRow = record { ends = noWords; fault = wordsFault; packet = packetOfWords; rest = λ (s : List ℕ). drop (dcIn s + 7) s }
+
+-- "W words: packets back to back". There are never more packets than words
+unfoldable pub packetsOfWords : List ℕ → Outcome
+packetsOfWords ws = packetsIn wordRow (length ws) 0 ws
+
+-- ---- the sheet
+
+-- "2 | section A's count is not 1, the sheet ends early, or numbers follow section C"
+unfoldable pub shaped : List ℕ → Bool
+shaped s =
+    eqb (getD s 0 0) 1 && (leb (4 + 2 * countIn s) (length s) && eqb (length s) (4 + 2 * countIn s + wordCountIn s))
+
+-- "6 | line or flags out of range | location"; the first at fault is named
+abbrev pub locationsStand : System → ℕ → List ℕ → Outcome → Outcome
+locationsStand y i [] o = o
+locationsStand y i (line ∷ []) o = o
+locationsStand y i (line ∷ flags ∷ ls) o = cond (stands y line && ltb flags 4) (locationsStand y (suc i) ls o) (refused 6 i)
+
+-- "Packet k belongs to location k."
+abbrev pub located : List ℕ → List Packet → List Packet
+located [] ps = []
+located (line ∷ []) ps = []
+located (line ∷ flags ∷ ls) [] = []
+located (line ∷ flags ∷ ls) (p ∷ ps) =
+    record { did = p .did; sdid = p .sdid; user = p .user; line = line; flags = flags } ∷ located ls ps
+
+-- 5, 6, then packet by packet 7 to 10, then "11 | packets and locations differ in number"
+unfoldable pub listTests : System → List ℕ → Outcome
+listTests y s =
+    unless 5 (leb (countIn s) limit)
+    (locationsStand y 0 (locationsIn s)
+    (andThen (packetsOfWords (wordsIn s))
+    (λ (ps : List Packet). unless 11 (eqb (length ps) (countIn s)) (listed (located (locationsIn s) ps)))))
+
+-- "the tests 2, 3, 5 to 11"
+unfoldable pub sheetTests : List ℕ → Outcome
+sheetTests s =
+    unless 2 (shaped s)
+    (unless 3 (known (systemIn s))
+    (listTests (system (systemIn s)) s))
+
+-- ---- laying
+
+-- "Laying tests 1 to 6 in table order. Then packet by packet: .. Then 11, 12."
+unfoldable pub laying : ℕ → List ℕ → List ℕ → Outcome
+laying k s area =
+    unless 1 (isPacking k)
+    (unless 2 (shaped s)
+    (unless 3 (known (systemIn s))
+    (unless 4 (eqb (length area) (areaSize (system (systemIn s))))
+    (andThen (listTests (system (systemIn s)) s)
+    (λ (ps : List Packet). unless 12 (fits k (blockSizes (system (systemIn s))) ps) (listed ps))))))
+
+-- "Laying returns number, place, packs laid and string bytes." "On refusal the later figures are 0 and the area .. is unchanged."
+abbrev pub laidOf : ℕ → System → Outcome → Laid
+laidOf k y (listed ps) = record { number = 0; place = 0; packs = packsLaid k (blockSizes y) ps; bytes = stringBytes ps }
+laidOf k y (refused n i) = record { number = n; place = i; packs = 0; bytes = 0 }
+
+abbrev pub areaOf : ℕ → System → List ℕ → Outcome → List ℕ
+areaOf k y area (listed ps) = scatter (runs y) (laidBytes k (blockSizes y) ps) area
+areaOf k y area (refused n i) = area
+
+-- what laying gives back, and the area afterwards
+unfoldable pub lay : ℕ → List ℕ → List ℕ → Laid
+lay k s area = laidOf k (system (systemIn s)) (laying k s area)
+
+unfoldable pub areaAfter : ℕ → List ℕ → List ℕ → List ℕ
+areaAfter k s area = areaOf k (system (systemIn s)) area (laying k s area)
