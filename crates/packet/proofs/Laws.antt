@@ -1,0 +1,79 @@
+-- What the proofs of the functions rest on.
+--
+-- In order: the parity of a byte; a pass over words; the parts of the sum that CS holds.
+-- Assumes nothing.
+use Prim.Native.Nat.{ℕ, zero, suc, _+_, _-_, _*_, _/_, _%_, _≤_, _<_}
+use mathlib.Core.Path.{_≡_, refl}
+use mathlib.Core.Bool.{Bool, true, false, _&&_}
+use mathlib.Core.List.{List, [], _∷_, _++_}
+use native.Mathlib.Omega.{arith}
+use native.Mathlib.Nat.{add-comm}
+use native.Mathlib.Numerals.{add-one}
+use lib.Bits.{bitXor}
+use lib.Dec.{eqb}
+use lib.ListN.{length, getD, take, drop, drop-of-length-le}
+use lib.Seq.{drop-cons, take-add, drop-drop}
+use borrow.Author.Tests.{eqb-true}
+use Rattle.rules.specs.Packet.{parity, word, sum9, check}
+use Rattle.rules.specs.Laying.{isWord, areWords}
+use Rattle.rules.proofs.Basics.{both}
+
+-- ---- the parity of a byte
+
+-- the test passes at every number below n
+abbrev every : (ℕ → Bool) → ℕ → Bool
+every test zero = true
+every test (suc n) = test 0 && every (λ b. test (suc b)) n
+
+every-at : (test : ℕ → Bool) (n b : ℕ) → every test n ≡ true → b < n → test b ≡ true
+every-at test zero b e h = absurd (omega arith)
+every-at test (suc n) zero e h = both (test 0) (every (λ b. test (suc b)) n) e .0
+every-at test (suc n) (suc b) e h = every-at (λ b. test (suc b)) n b (both (test 0) (every (λ b. test (suc b)) n) e .1) (omega arith)
+
+-- each bit of b against the one that stands k times as high: 1 where they differ
+abbrev fold : ℕ → ℕ → ℕ
+fold k b = bitXor b (b / k)
+
+abbrev folded : ℕ → ℕ
+folded b = fold 2 (fold 4 (fold 16 b)) % 2
+
+-- the test of all 256 bytes is computed
+pub folded-parity : (b : ℕ) → b < 256 → folded b ≡ parity b
+unfolding parity
+folded-parity b h = eqb-true (folded b) (parity b) (every-at (λ b. eqb (folded b) (parity b)) 256 b refl h)
+
+-- ---- a pass over words: what the word at i adds, and the end
+
+pub words-next : (ok : Bool) (i w : ℕ) (ws : List ℕ) → i < length ws → w ≡ word (getD ws i 0 % 256)
+    → ((ok && eqb (getD ws i 0) w) && areWords (drop (i + 1) ws)) ≡ (ok && areWords (drop i ws))
+unfolding isWord
+words-next true i w ws h e = rw (e, add-one i, drop-cons ws i 0 h)
+words-next false i w ws h e = refl
+
+pub words-end : (ok : Bool) (i : ℕ) (ws : List ℕ) → length ws ≤ i → (ok && areWords (drop i ws)) ≡ ok
+words-end true i ws h = rw (drop-of-length-le ws h)
+words-end false i ws h = refl
+
+pub sum9-next : (i : ℕ) (ws : List ℕ) → i < length ws → sum9 (drop i ws) ≡ getD ws i 0 % 512 + sum9 (drop (i + 1) ws)
+sum9-next i ws h = rw (add-one i, drop-cons ws i 0 h)
+
+pub sum9-end : (i : ℕ) (ws : List ℕ) → length ws ≤ i → sum9 (drop i ws) ≡ 0
+sum9-end i ws h = rw (drop-of-length-le ws h)
+
+-- ---- the parts of the sum that CS holds
+
+sum9-append : (vs ws : List ℕ) → sum9 (vs ++ ws) ≡ sum9 vs + sum9 ws
+sum9-append [] ws = omega arith
+sum9-append (v ∷ vs) ws = omega (arith, sum9-append vs ws)
+
+-- the words that CS is over: DID, SDID and DC, and then the user words
+pub sum9-parts : (d : ℕ) (s : List ℕ) → sum9 (take (d + 3) (drop 3 s)) ≡ sum9 (take 3 (drop 3 s)) + sum9 (take d (drop 6 s))
+sum9-parts d s = rw (add-comm d 3, take-add 3 d (drop 3 s), drop-drop 3 3 s) (sum9-append (take 3 (drop 3 s)) (take d (drop 6 s)))
+
+-- CS from the sums of the two parts, each reduced
+pub check-parts : (d h u : ℕ) (s : List ℕ) → h ≡ sum9 (take 3 (drop 3 s)) % 512 → u ≡ sum9 (take d (drop 6 s)) % 512
+    → check (take (d + 3) (drop 3 s)) ≡ (h + u) % 512 + 512 * (1 - (h + u) % 512 / 256)
+unfolding check
+check-parts d h u s e f =
+    let g : sum9 (take (d + 3) (drop 3 s)) % 512 ≡ (h + u) % 512 = omega (arith, sum9-parts d s) in
+    rw g

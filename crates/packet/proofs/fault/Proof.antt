@@ -1,0 +1,229 @@
+-- `packet::fault` meets its contract. Each test that is passed leaves the later ones of `wordsFault`, and CS is over both runs (`check-parts`).
+-- Assumes nothing.
+use Prim.Native.Nat.{ℕ, _+_, _-_, _%_}
+use mathlib.Core.Path.{_≡_, ap, sym, _∙_}
+use mathlib.Core.Logic.{⊎-elim}
+use mathlib.Core.Bool.{true, false, cond, not}
+use mathlib.Core.List.{List}
+use native.Mathlib.Omega.{arith}
+use lib.Dec.{eqb, ltb}
+use lib.ListN.{length, getD, take, drop}
+use borrow.Author.Needs.{needs}
+use borrow.Author.Tests.{lt-ltb, le-ltb, eq-eqb, ne-eqb, not-true, not-false}
+use Rattle.rules.specs.Packet.{sum9, check}
+use Rattle.rules.specs.Laying.{areWords, dcIn, wordsFault}
+use Rattle.packet.specs.Run.{runOf}
+use Rattle.packet.specs.declared.Run.{Run}
+use Rattle.packet.proofs.Laws.{check-parts}
+use Rattle.packet.proofs.fault.Statement.{statement}
+use Rattle.packet.proofs.fault.Tie as tie
+
+-- ---- the tests that are left: after the user words, after 9, after DID, SDID and DC, after the flag
+
+abbrev lastTest : List ℕ → ℕ
+lastTest s = cond (not (eqb (getD s (dcIn s + 6) 0) (check (take (dcIn s + 3) (drop 3 s))))) 10 0
+
+abbrev userTests : List ℕ → ℕ
+userTests s = cond (not (areWords (take (dcIn s) (drop 6 s)))) 8 (lastTest s)
+
+abbrev sizeTests : List ℕ → ℕ
+sizeTests s = cond (ltb (length s) (dcIn s + 7)) 9 (userTests s)
+
+abbrev headTests : List ℕ → ℕ
+headTests s = cond (not (areWords (take 3 (drop 3 s)))) 8 (sizeTests s)
+
+-- ---- the words that are given, as each place of the code has them
+
+abbrev ws-flag : tie.Else4 → List ℕ
+ws-flag c = c .before .before .before .before .before .before .before .before .args .ws .now
+
+abbrev ws-head : tie.After-run-of → List ℕ
+ws-head c = ws-flag (c .before .before .before)
+
+abbrev ws-size : tie.Else6 → List ℕ
+ws-size c = ws-head (c .before .before .before)
+
+abbrev ws-user : tie.After-run-of2 → List ℕ
+ws-user c = ws-size (c .before .before)
+
+abbrev ws-check : tie.After-check-word → List ℕ
+ws-check c = ws-user (c .before .before .before .before .before .before)
+
+-- ---- the flag
+
+past-flag : (c : tie.Else4) → wordsFault (ws-flag c) ≡ headTests (ws-flag c)
+unfolding wordsFault
+past-flag c =
+    let s = ws-flag c in
+    rw (
+      le-ltb _ 7 (c .before .before .before .before .before .before .if1 .left),
+      not-false (eqb (getD s 0 0) 0x000) (c .before .before .before .before .if2 .left),
+      not-false (eqb (getD s 1 0) 0x3FF) (c .before .before .if3 .left),
+      not-false (eqb (getD s 2 0) 0x3FF) (c .if4 .left),
+    )
+
+-- ---- DID, SDID and DC
+
+head-words : (c : tie.After-run-of) → c .run-of .result .words ≡ areWords (take 3 (drop 3 (ws-head c)))
+head-words c = ap (λ (r : Run). r .words) (c .run-of .ensures)
+
+head-sum : (c : tie.After-run-of) → c .run-of .result .sum ≡ sum9 (take 3 (drop 3 (ws-head c))) % 512
+head-sum c = ap (λ (r : Run). r .sum) (c .run-of .ensures)
+
+good-head : (c : tie.Else5) → not (areWords (take 3 (drop 3 (ws-head (c .before .before))))) ≡ false
+good-head c = search (head-words (c .before .before))
+
+bad-head : (c : tie.Then5) → not (areWords (take 3 (drop 3 (ws-head (c .before .before))))) ≡ true
+bad-head c = search (head-words (c .before .before))
+
+past-head : (c : tie.Else5) → wordsFault (ws-head (c .before .before)) ≡ sizeTests (ws-head (c .before .before))
+past-head c = past-flag (c .before .before .before .before .before) ∙ rw (good-head c)
+
+-- ---- the size
+
+past-size : (c : tie.Else6) → wordsFault (ws-size c) ≡ userTests (ws-size c)
+past-size c = past-head (c .before) ∙ rw (le-ltb (length (ws-size c)) (dcIn (ws-size c) + 7) (omega arith))
+
+-- ---- the user words
+
+six : (d : ℕ) → d + 6 - 6 ≡ d
+six d = omega arith
+
+user-run : (c : tie.After-run-of2) → c .run-of2 .result ≡ runOf (take (dcIn (ws-user c)) (drop 6 (ws-user c)))
+user-run c = c .run-of2 .ensures ∙ ap (λ (n : ℕ). runOf (take n (drop 6 (ws-user c)))) (six (dcIn (ws-user c)))
+
+user-words : (c : tie.After-run-of2) → c .run-of2 .result .words ≡ areWords (take (dcIn (ws-user c)) (drop 6 (ws-user c)))
+user-words c = ap (λ (r : Run). r .words) (user-run c)
+
+user-sum : (c : tie.After-run-of2) → c .run-of2 .result .sum ≡ sum9 (take (dcIn (ws-user c)) (drop 6 (ws-user c))) % 512
+user-sum c = ap (λ (r : Run). r .sum) (user-run c)
+
+good-user : (c : tie.Else7) → not (areWords (take (dcIn (ws-user (c .before .before))) (drop 6 (ws-user (c .before .before))))) ≡ false
+good-user c = search (user-words (c .before .before))
+
+bad-user : (c : tie.Then7) → not (areWords (take (dcIn (ws-user (c .before .before))) (drop 6 (ws-user (c .before .before))))) ≡ true
+bad-user c = search (user-words (c .before .before))
+
+past-user : (c : tie.Else7) → wordsFault (ws-user (c .before .before)) ≡ lastTest (ws-user (c .before .before))
+past-user c = past-size (c .before .before .before .before) ∙ rw (good-user c)
+
+-- ---- CS
+
+checked : (c : tie.After-check-word) → check (take (dcIn (ws-check c) + 3) (drop 3 (ws-check c))) ≡ c .check-word .result
+checked c =
+    let user = c .before .before .before .before .before .before in
+    check-parts (dcIn (ws-check c)) _ _ (ws-check c) (head-sum (user .before .before .before .before .before)) (user-sum user)
+    ∙ sym (c .check-word .ensures)
+
+-- ---- the needs
+
+shared-slice-read-if2 : tie.Need-shared-slice-read-if2
+shared-slice-read-if2 c = search needs
+
+shared-slice-read-if3 : tie.Need-shared-slice-read-if3
+shared-slice-read-if3 c = search needs
+
+shared-slice-read-if4 : tie.Need-shared-slice-read-if4
+shared-slice-read-if4 c = search needs
+
+returns : tie.Need-returns
+unfolding wordsFault
+returns c =
+    let s = c .before .before .args .ws .now in
+    let first = eqb (getD s 0 0) 0x000 in
+    let second = eqb (getD s 1 0) 0x3FF in
+    let third = eqb (getD s 2 0) 0x3FF in
+    ⊎-elim (λ w. rw (lt-ltb _ 7 (w .taken)))
+    (⊎-elim (λ w. rw (le-ltb _ 7 (w .0 .left), not-true first (w .2 .taken)))
+    (⊎-elim (λ w. rw (le-ltb _ 7 (w .0 .left), not-false first (w .2 .left), not-true second (w .4 .taken)))
+    (λ w. rw (le-ltb _ 7 (w .0 .left), not-false first (w .2 .left), not-false second (w .4 .left), not-true third (w .6 .taken)))))
+    (c .if1 .came)
+
+shared-slice-read-end : tie.Need-shared-slice-read-end
+shared-slice-read-end c = search needs
+
+cast-end : tie.Need-cast-end
+cast-end c = search needs
+
+add-end : tie.Need-add-end
+add-end c = search needs
+
+sub-run-of : tie.Need-sub-run-of
+sub-run-of c = search needs
+
+part-run-of-start : tie.Need-part-run-of-start
+part-run-of-start c = search needs
+
+part-run-of-end : tie.Need-part-run-of-end
+part-run-of-end c = search needs
+
+run-of-requires : tie.Need-run-of-requires
+run-of-requires c κs = search needs
+
+returns-2 : tie.Need-returns-2
+returns-2 c = rw (past-flag (c .before .before .before .before .before), bad-head c)
+
+returns-3 : tie.Need-returns-3
+returns-3 c = rw (past-head (c .before), lt-ltb (length (ws-head (c .before .before .before))) (dcIn (ws-head (c .before .before .before)) + 7) (omega arith))
+
+sub-run-of-2 : tie.Need-sub-run-of-2
+sub-run-of-2 c = search needs
+
+part-run-of-start-2 : tie.Need-part-run-of-start-2
+part-run-of-start-2 c = search needs
+
+part-run-of-end-2 : tie.Need-part-run-of-end-2
+part-run-of-end-2 c = search needs
+
+run-of-requires-2 : tie.Need-run-of-requires-2
+run-of-requires-2 c κs = search needs
+
+returns-4 : tie.Need-returns-4
+returns-4 c = rw (past-size (c .before .before .before .before), bad-user c)
+
+mul-if8 : tie.Need-mul-if8
+mul-if8 c = search needs
+
+shared-slice-read-if8 : tie.Need-shared-slice-read-if8
+shared-slice-read-if8 c = search needs
+
+add-check-word : tie.Need-add-check-word
+add-check-word c = omega (arith, head-sum (c .before .before .before .before .before .before .before .before .before .before), user-sum (c .before .before .before .before .before))
+
+check-word-requires : tie.Need-check-word-requires
+check-word-requires c κs = search needs
+
+returns-5 : tie.Need-returns-5
+returns-5 c = rw (past-user (c .before .before .before .before .before), checked (c .before), ne-eqb _ _ (c .if8 .taken))
+
+returns-6 : tie.Need-returns-6
+returns-6 c = rw (past-user (c .before .before .before .before .before), checked (c .before), eq-eqb _ _ (c .if8 .left))
+
+pub fault-spec : {M : Type 1} → statement M
+fault-spec =
+    tie.close
+    (tie.spec
+    shared-slice-read-if2
+    shared-slice-read-if3
+    shared-slice-read-if4
+    returns
+    shared-slice-read-end
+    cast-end
+    add-end
+    sub-run-of
+    part-run-of-start
+    part-run-of-end
+    run-of-requires
+    returns-2
+    returns-3
+    sub-run-of-2
+    part-run-of-start-2
+    part-run-of-end-2
+    run-of-requires-2
+    returns-4
+    mul-if8
+    shared-slice-read-if8
+    add-check-word
+    check-word-requires
+    returns-5
+    returns-6)

@@ -1,0 +1,90 @@
+// The ten-bit words of a packet (document 01, "The packet"; SMPTE 291): the word of a byte, CS, and the tests 7 to 10.
+// What each function gives is a definition of the crate rules.
+ghost use mathlib.Core.Path.{_≡_};
+ghost use Prim.Native.Nat.{_+_, _-_, _*_, _/_, _<_};
+ghost use Rattle.rules.specs.Packet.{word, check};
+ghost use Rattle.rules.specs.Laying.{wordsFault};
+ghost use Rattle.packet.specs.Run.{runOf};
+
+// Bit 8 makes the count of ones even, and bit 9 is its inverse (SMPTE 291).
+// The eight bits are folded onto one, without a table or a branch, since this is done for every word.
+fn with_parity(b: u16) -> u16
+    requires { ⌜ b < 256 ⌝ }
+    ensures { λ r. ⌜ r ≡ word b ⌝ }
+{
+    let x = b ^ (b / 16);
+    let y = x ^ (x / 4);
+    let p = (y ^ (y / 2)) % 2;
+    b + 512 - 256 * p
+}
+
+// The ten-bit word of a byte (SMPTE 291).
+pub fn word_of(b: u8) -> u16
+    ensures { λ r. ⌜ r ≡ word b ⌝ }
+{
+    with_parity(b as u16)
+}
+
+// What one pass over some words finds: whether each is the word of its low byte, and the sum of their low nine bits.
+pub struct Run {
+    pub words: bool,
+    pub sum: u16,
+}
+
+// A wrong word does not end the loop, so that it has no branch.
+// The sum is reduced after every word, so that it fits whatever the number of words (document 01: "modulo 512").
+pub fn run_of(ws: &[u16]) -> Run
+    ensures { λ r. ⌜ r ≡ runOf (now (ws .entry)) ⌝ }
+{
+    let mut i = 0;
+    let mut ok = true;
+    let mut sum: u16 = 0;
+    while i < ws.len() {
+        let w = ws[i];
+        ok = ok & (w == with_parity(w % 256));
+        sum = (sum + w % 512) % 512;
+        i += 1;
+    }
+    Run { words: ok, sum }
+}
+
+// Bit 9 of CS is the inverse of its bit 8, which is the sum's own and no parity (document 01, "Errors that look right").
+fn check_word(sum: u16) -> u16
+    requires { ⌜ sum < 512 ⌝ }
+    ensures { λ r. ⌜ r ≡ sum + 512 * (1 - sum / 256) ⌝ }
+{
+    (sum + 256) % 512 + 256
+}
+
+// CS of the words from DID to the last user word.
+pub fn check_of(ws: &[u16]) -> u16
+    ensures { λ r. ⌜ r ≡ check (now (ws .entry)) ⌝ }
+{
+    check_word(run_of(ws).sum)
+}
+
+// The number of the first fault of the packet that the words begin with, 0 for none, in document 01's order.
+// The sums of the two runs are added for CS, so that no word is summed twice.
+pub fn fault(ws: &[u16]) -> u64
+    ensures { λ r. ⌜ r ≡ wordsFault (now (ws .entry)) ⌝ }
+{
+    if ws.len() < 7 || ws[0] != 0x000 || ws[1] != 0x3FF || ws[2] != 0x3FF {
+        return 7;
+    }
+    let end = (ws[5] % 256) as usize + 6;
+    let head = run_of(&ws[3..6]);
+    if !head.words {
+        return 8;
+    }
+    if ws.len() <= end {
+        return 9;
+    }
+    let user = run_of(&ws[6..end]);
+    if !user.words {
+        return 8;
+    }
+    if ws[end] != check_word((head.sum + user.sum) % 512) {
+        return 10;
+    }
+    0
+}

@@ -1,0 +1,210 @@
+#!/usr/bin/env python3
+"""Cases for the lister, and what it has to print: python3 tests/lister_cases.py writes crates/lister_cases/data/cases and its stdout.
+
+Written from document 01 and not from the Rattle code. A case is its length in four bytes, high byte first, and its bytes."""
+import pathlib
+import random
+import struct
+
+HOME = pathlib.Path(__file__).resolve().parent.parent / "crates" / "lister_cases"
+LAST = {1: 1125, 2: 1125, 3: 750}
+
+
+def word(byte):
+    odd = bin(byte).count("1") % 2
+    return byte | (0x100 if odd else 0x200)
+
+
+def check(words):
+    total = sum(w & 0x1FF for w in words) & 0x1FF
+    return total | (0 if total & 0x100 else 0x200)
+
+
+def packet(did, sdid, user):
+    body = [word(b) for b in [did, sdid, len(user), *user]]
+    return [0, 0x3FF, 0x3FF, *body, check(body)]
+
+
+def sheet(system, locations, words, count=None, total=None):
+    flat = [n for pair in locations for n in pair]
+    return [1, system, len(locations) if count is None else count, *flat, len(words) if total is None else total, *words]
+
+
+def first_fault(words):
+    """7 to 10 of the packet in front, 0 for none."""
+    if len(words) < 7 or words[:3] != [0, 0x3FF, 0x3FF]:
+        return 7
+    if any(w != word(w & 0xFF) for w in words[3:6]):
+        return 8
+    dc = words[5] & 0xFF
+    if len(words) < dc + 7:
+        return 9
+    if any(w != word(w & 0xFF) for w in words[6 : 6 + dc]):
+        return 8
+    return 0 if words[6 + dc] == check(words[3 : 6 + dc]) else 10
+
+
+def listing(data):
+    if len(data) > 65536 or len(data) % 2:
+        return "refused 2 at 0\n"
+    s = list(struct.unpack(f">{len(data) // 2}H", data))
+    if len(s) < 4 or s[0] != 1:
+        return "refused 2 at 0\n"
+    count = s[2]
+    if len(s) < 4 + 2 * count or len(s) != 4 + 2 * count + s[3 + 2 * count]:
+        return "refused 2 at 0\n"
+    if s[1] not in LAST:
+        return "refused 3 at 0\n"
+    if count > 512:
+        return "refused 5 at 0\n"
+    locations = [(s[3 + 2 * k], s[4 + 2 * k]) for k in range(count)]
+    for k, (line, flags) in enumerate(locations):
+        if line > LAST[s[1]] or flags > 3:
+            return f"refused 6 at {k}\n"
+    words = s[4 + 2 * count :]
+    rows, at = [], 0
+    while at < len(words):
+        fault = first_fault(words[at:])
+        if fault:
+            return f"refused {fault} at {len(rows)}\n"
+        dc = words[at + 5] & 0xFF
+        rows.append((words[at + 3] & 0xFF, words[at + 4] & 0xFF, dc))
+        at += dc + 7
+    if len(rows) != count:
+        return "refused 11 at 0\n"
+    packs = sum(2 + -(-dc // 4) for _, _, dc in rows)
+    text = f"system {s[1]} packets {count} bytes {len(words)} packs {packs}\n"
+    for k, ((line, flags), (did, sdid, dc)) in enumerate(zip(locations, rows)):
+        text += f"{k} {line} {flags} {did:02X} {sdid:02X} {dc}\n"
+    return text
+
+
+def pack(numbers):
+    return struct.pack(f">{len(numbers)}H", *numbers)
+
+
+P = packet(0x45, 0x01, [0x10, 0x80])
+E = packet(0x45, 0x01, [])
+
+
+def flipped(words, at, bit):
+    out = list(words)
+    out[at] ^= 1 << bit
+    return out
+
+
+def worked():
+    """Document 01's own, and the refusals, with two faults at once so that the order shows."""
+    yield pack(sheet(1, [(9, 0)], P))
+    yield pack(sheet(1, [(9, 0)], E))
+    yield pack(sheet(1, [(9, 0)], packet(0x45, 0x01, [0xB8])))
+    yield pack(sheet(1, [(561, 3), (1125, 0), (0, 0), (127, 0)], P * 4))
+    yield pack(sheet(2, [], []))
+    yield pack(sheet(3, [(750, 0)], P))
+    yield pack(sheet(1, [(1, 1)] * 512, E * 512))
+    yield pack(sheet(2, [(7, 2)] * 124, packet(0, 0x80, [7] * 255) * 124))
+    yield pack(sheet(1, [(0, 0)] * 24, packet(0x61, 1, [1] * 255) * 23 + packet(0x61, 1, [2] * 160)))
+    # 2
+    yield b""
+    yield pack(sheet(1, [(9, 0)], P)) + b"\0"
+    yield pack([1])
+    yield pack([1, 1, 0])
+    yield pack([2, 1, *sheet(1, [(9, 0)], P)[2:]])
+    yield pack(sheet(1, [(9, 0)], P) + [0])
+    yield pack(sheet(1, [(9, 0)], P)[:-1])
+    yield pack(sheet(4, [(9, 0)], P)[:-1])
+    yield pack([0, 4, 0, 0])
+    yield pack([1, 1, 65535, 0, 0])
+    yield pack([1, 1, 0, 65535, 0])
+    yield bytes(65537)
+    yield b"\0\1" * 32768
+    # 3
+    yield pack(sheet(0, [(9, 0)], P))
+    yield pack(sheet(4, [(2000, 9)], P))
+    yield pack(sheet(65535, [(1, 0)] * 513, E * 513))
+    # 5
+    yield pack(sheet(1, [(1, 0)] * 513, E * 513))
+    yield pack(sheet(2, [(2000, 0)] * 513, []))
+    yield pack(sheet(3, [(1, 0)] * 600, flipped(P, 0, 0)))
+    # 6
+    yield pack(sheet(3, [(751, 0)], P))
+    yield pack(sheet(1, [(1125, 3), (1126, 0)], P))
+    yield pack(sheet(1, [(1, 0), (1, 4), (1126, 0)], flipped(P, 8, 0)))
+    yield pack(sheet(2, [(0, 65535)], []))
+    # 7
+    yield pack(sheet(1, [(9, 0)], P[:6]))
+    yield pack(sheet(1, [(9, 0), (9, 0)], P + flipped(flipped(P, 1, 9), 4, 0)))
+    yield pack(sheet(1, [], [0]))
+    yield pack(sheet(1, [(9, 0)], [0x1000, *P[1:]]))
+    # 8
+    yield pack(sheet(1, [(9, 0)], flipped(P, 3, 8)))
+    yield pack(sheet(1, [(9, 0)], flipped(P[:8], 4, 9)))
+    yield pack(sheet(1, [(9, 0)], flipped(flipped(P, 6, 3), 8, 1)))
+    yield pack(sheet(1, [(9, 0), (9, 0)], P + flipped(P, 5, 10)))
+    # 9
+    yield pack(sheet(1, [(9, 0)], P[:8]))
+    yield pack(sheet(1, [(9, 0)], flipped(packet(1, 2, [3] * 9)[:14], 8, 0)))
+    yield pack(sheet(1, [(9, 0), (8, 0)], P + packet(1, 2, [3] * 200)[:206]))
+    # 10
+    yield pack(sheet(1, [(9, 0)], [*P[:8], 0x2D8]))
+    yield pack(sheet(1, [(9, 0)], flipped(P, 8, 9)))
+    yield pack(sheet(1, [], flipped(P, 8, 0)))
+    yield pack(sheet(1, [(9, 0)], flipped(P, 8, 12)))
+    # 11
+    yield pack(sheet(1, [], P))
+    yield pack(sheet(1, [(9, 0), (9, 0)], P))
+    yield pack(sheet(3, [(9, 0)], P + P))
+
+
+def random_sheet(r):
+    system = r.choice([1, 2, 3])
+    count = r.choice([0, 1, 2, 3, 5, 9, 30])
+    locations, words = [], []
+    for _ in range(count):
+        line = 0 if r.random() < 0.3 else r.randint(1, LAST[system])
+        locations.append((line, r.randint(0, 3)))
+        dc = r.choice([0, 1, 2, 3, 4, 5, 20, 254, 255]) if count < 9 else r.randint(0, 9)
+        words += packet(r.randrange(256), r.randrange(256), [r.choice([0, 255, r.randrange(256)]) for _ in range(dc)])
+    return sheet(system, locations, words)
+
+
+def damaged(r):
+    s = random_sheet(r)
+    for _ in range(r.choice([1, 1, 2, 3])):
+        kind = r.randrange(5)
+        at = r.randrange(len(s))
+        if kind == 0:
+            s[at] ^= 1 << r.randrange(16)
+        elif kind == 1:
+            s[at] = r.choice([0, 1, 3, 4, 0x3FF, 513, 750, 751, 1125, 1126, 65535])
+        elif kind == 2 and len(s) > 1:
+            del s[at]
+        elif kind == 3:
+            s.insert(at, r.choice([0, 1, 0x3FF, r.randrange(1024)]))
+        else:
+            body = 4 + 2 * min(s[2], len(s)) if len(s) > 2 else len(s)
+            if body < len(s):
+                s[r.randrange(body, len(s))] ^= 1 << r.randrange(10)
+        if not s:
+            s = [1]
+    return s
+
+
+def main():
+    r = random.Random(291)
+    cases = list(worked())
+    cases += [pack(random_sheet(r)) for _ in range(100)]
+    cases += [pack(damaged(r)) for _ in range(600)]
+    texts = [listing(c) for c in cases]
+    for number in (2, 3, 5, 6, 7, 8, 9, 10, 11):
+        met = sum(t.startswith(f"refused {number} ") for t in texts)
+        assert met >= 3, (number, met)
+    (HOME / "data").mkdir(parents=True, exist_ok=True)
+    (HOME / "data" / "cases").write_bytes(b"".join(struct.pack(">I", len(c)) + c for c in cases))
+    (HOME / "stdout").write_text("".join(texts))
+    print(len(cases), "cases,", sum(len(c) for c in cases), "bytes")
+    for number in (2, 3, 5, 6, 7, 8, 9, 10, 11):
+        print("refused", number, sum(t.startswith(f"refused {number} ") for t in texts))
+
+
+main()

@@ -1,0 +1,24 @@
+# What this machine has. Sourced: `need COMMAND PACKAGE` installs a Debian package where the command is missing; `run PROGRAM ..` runs an
+# x86-64 program, as all that the toolchain builds are, on any processor.
+
+as_root() {
+  if [ "$(id -u)" = 0 ]; then "$@"; else sudo "$@"; fi
+}
+
+install_package() {
+  echo "installing Debian's $1" >&2
+  as_root apt-get update -qq >&2
+  as_root env DEBIAN_FRONTEND=noninteractive apt-get install -y -qq --no-install-recommends "$1" >/dev/null
+}
+
+need() {
+  command -v "$1" >/dev/null || install_package "$2"
+}
+
+if [ "$(uname -m)" = x86_64 ]; then
+  run() { "$@"; }
+else
+  need qemu-x86_64 qemu-user
+  [ -e /usr/x86_64-linux-gnu/lib/ld-linux-x86-64.so.2 ] || install_package libc6-amd64-cross
+  run() { qemu-x86_64 -L /usr/x86_64-linux-gnu "$@"; }
+fi
