@@ -1,0 +1,9 @@
+// Reads a sheet on standard input and prints what it lists (document 01, "Worked figures"). One byte more than the largest sheet is read, so
+// that a longer input is seen to be longer.
+fn main() {
+    let mut file = [0u8; 65537];
+    let n = io::read_full(0, &mut file);
+    let mut out = [0u8; 16384];
+    let k = listing::listing(&file[..n], &mut out);
+    io::write_all(libc::STDOUT_FILENO, &out[..k]);
+}

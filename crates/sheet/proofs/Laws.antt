@@ -1,0 +1,383 @@
+-- What each way through the code says of the rules, over plain values: the proofs of the functions hand these laws what the code knows.
+--
+-- In order: the shape (2); locations (6); packets (7 to 10); the list (5, 6, 11); the sheet (2, 3).
+-- Assumes nothing.
+use Prim.Native.Nat.{ℕ, zero, suc, _+_, _-_, _*_, _/_, _%_, _≤_, _<_}
+use mathlib.Core.Path.{_≡_, refl, sym, ap, _∙_}
+use mathlib.Core.Bool.{Bool, true, false, cond, not, _&&_, _||_}
+use mathlib.Core.List.{List, [], _∷_, map}
+use native.Mathlib.Nat.{le-of-eq, zero-add, add-zero, sub-zero}
+use native.Mathlib.Numerals.{add-one}
+use native.Mathlib.Omega.{arith}
+use lib.Dec.{eqb, ltb, leb, eqb·suc-suc, eqb·zero-suc}
+use lib.ListN.{length, getD, take, drop, length-drop, length-map, drop-of-length-le}
+use lib.Seq.{take-all, length-take-le, drop-cons, drop-drop, getD-drop}
+use borrow.Author.Tests.{ltb-false, leb-true, eqb-true, eqb-false, not-true, not-false, lt-ltb, le-ltb, le-leb, lt-leb, eq-eqb, ne-eqb}
+use Rattle.rules.specs.Base.{sum}
+use Rattle.rules.specs.Systems.{System, system, stands}
+use Rattle.rules.specs.Packet.{Packet, check}
+use Rattle.rules.specs.Danc.{bytesOf, stringBytes}
+use Rattle.rules.specs.Packing1.{packsOf}
+use Rattle.rules.specs.Sheet.{limit, systemIn, countIn, locationsIn, wordCountIn, wordsIn}
+use Rattle.rules.specs.Numbers.{Outcome, listed, refused, unless, andThen, also, packetsIn}
+use Rattle.rules.specs.Laying.{
+  areWords,
+  flagged,
+  low,
+  dcIn,
+  wordsFault,
+  packetOfWords,
+  wordRow,
+  packetsOfWords,
+  shaped,
+  locationsStand,
+  located,
+  listTests,
+  sheetTests,
+}
+use Rattle.rules.specs.Lister.{testedOf, tested}
+use Rattle.rules.specs.declared.Tested.{Tested}
+use Rattle.rules.proofs.Basics.{both, second-false}
+use Rattle.rules.proofs.Words.{words-enough, words-refused}
+use Rattle.frame.specs.Systems.{figuresOf}
+use Rattle.frame.specs.declared.Figures.{Figures}
+use Rattle.frame.proofs.Laws.{unknown-figures, known-figures}
+use Rattle.sheet.specs.Standing.{standingIn}
+
+-- what is lent from a place to the end
+pub rest-part : (n : ℕ) (s : List ℕ) → take (length s - n) (drop n s) ≡ drop n s
+rest-part n s = take-all (length s - n) (drop n s) (le-of-eq (length-drop n s))
+
+-- ---- the shape
+
+-- "section A's count is not 1"
+pub not-one : (s : List ℕ) → not (eqb (getD s 0 0) 1) ≡ true → false ≡ shaped s
+unfolding shaped
+not-one s h = rw (not-true (eqb (getD s 0 0) 1) h)
+
+-- "the sheet ends early"
+pub ends-early : (s : List ℕ) → length s < 4 + 2 * countIn s → false ≡ shaped s
+unfolding shaped
+ends-early s h = sym (second-false (eqb (getD s 0 0) 1) _ (rw (lt-leb (4 + 2 * countIn s) (length s) h)))
+
+-- "or numbers follow section C"
+pub follows : (s : List ℕ) (p w : ℕ) → not (eqb (getD s 0 0) 1) ≡ false → p ≡ countIn s → 4 + 2 * p ≤ length s
+    → w ≡ getD s (4 + 2 * p - 1) 0 → eqb (length s) (4 + 2 * p + w) ≡ shaped s
+unfolding shaped
+follows s p w a e l f =
+    let k : 4 + 2 * p - 1 ≡ 3 + 2 * countIn s = omega arith in
+    let v : w ≡ wordCountIn s = f ∙ ap (λ (n : ℕ). getD s n 0) k in
+    rw (not-false (eqb (getD s 0 0) 1) a, le-leb (4 + 2 * countIn s) (length s) (omega arith), e, v)
+
+-- "A sheet has 4 + 2P + W numbers."
+pub shaped-long : (s : List ℕ) → shaped s ≡ true → 4 + 2 * countIn s ≤ length s
+unfolding shaped
+shaped-long s e =
+    let a = both (eqb (getD s 0 0) 1) (leb (4 + 2 * countIn s) (length s) && eqb (length s) (4 + 2 * countIn s + wordCountIn s)) e in
+    let b = both (leb (4 + 2 * countIn s) (length s)) (eqb (length s) (4 + 2 * countIn s + wordCountIn s)) (a .1) in
+    leb-true (4 + 2 * countIn s) (length s) (b .0)
+
+-- ---- locations
+
+-- test 6 of P pairs by how many of them stand in front
+pub stand-count : (y : System) (i p : ℕ) (ls : List ℕ) (o : Outcome) → length ls ≡ 2 * p
+    → locationsStand y i ls o ≡ cond (eqb (standingIn y ls) p) o (refused 6 (i + standingIn y ls))
+stand-count y i zero [] o h = refl
+stand-count y i (suc p) [] o h = absurd (omega arith)
+stand-count y i p (l ∷ []) o h = absurd (omega arith)
+stand-count y i zero (l ∷ f ∷ ls) o h = absurd (omega arith)
+stand-count y i (suc p) (l ∷ f ∷ ls) o h = go (stands y l && ltb f 4) (stand-count y (suc i) p ls o (omega arith))
+  where
+    go : (t : Bool) → locationsStand y (suc i) ls o ≡ cond (eqb (standingIn y ls) p) o (refused 6 (suc i + standingIn y ls))
+        → cond t (locationsStand y (suc i) ls o) (refused 6 i)
+        ≡ cond (eqb (cond t (suc (standingIn y ls)) 0) (suc p)) o (refused 6 (i + cond t (suc (standingIn y ls)) 0))
+    go true ih =
+        let k : suc i + standingIn y ls ≡ i + suc (standingIn y ls) = omega arith in
+        ih ∙ rw (k, eqb·suc-suc (standingIn y ls) p)
+    go false ih = let k : i ≡ i + 0 = omega arith in rw (eqb·zero-suc, ← k)
+
+-- the pair at k
+drop-pair : (k : ℕ) (ls : List ℕ) → 2 * k + 1 < length ls
+    → drop (2 * k) ls ≡ getD ls (2 * k) 0 ∷ getD ls (2 * k + 1) 0 ∷ drop (2 * (k + 1)) ls
+drop-pair k ls h =
+    let e : 2 * (k + 1) ≡ suc (suc (2 * k)) = omega arith in
+    rw (e, add-one (2 * k), drop-cons ls (2 * k) 0 (omega arith), drop-cons ls (suc (2 * k)) 0 (omega arith))
+
+-- the pair at k stands, or does not: its line, its flags
+module _ (y : System) (last : ℕ) (is : y .last ≡ last) (k : ℕ) (ls : List ℕ) (h : 2 * k + 1 < length ls) where
+  pub stand-more : getD ls (2 * k) 0 ≤ last → getD ls (2 * k + 1) 0 ≤ 3
+      → k + 1 + standingIn y (drop (2 * (k + 1)) ls) ≡ k + standingIn y (drop (2 * k) ls)
+  unfolding stands
+  stand-more a b =
+      rw (drop-pair k ls h, is, le-leb (getD ls (2 * k) 0) last a, lt-ltb (getD ls (2 * k + 1) 0) 4 (omega arith)) (omega arith)
+
+  pub line-past : last < getD ls (2 * k) 0 → k ≡ k + standingIn y (drop (2 * k) ls)
+  unfolding stands
+  line-past a = rw (drop-pair k ls h, is, lt-leb (getD ls (2 * k) 0) last a) (omega arith)
+
+  pub flags-past : 3 < getD ls (2 * k + 1) 0 → k ≡ k + standingIn y (drop (2 * k) ls)
+  flags-past a =
+      let z : (stands y (getD ls (2 * k) 0) && ltb (getD ls (2 * k + 1) 0) 4) ≡ false =
+      second-false (stands y (getD ls (2 * k) 0)) _ (le-ltb (getD ls (2 * k + 1) 0) 4 a) in
+      rw (drop-pair k ls h, z) (omega arith)
+
+-- no pair is left
+pub stand-end : (y : System) (k : ℕ) (ls : List ℕ) → length ls ≤ 2 * k + 1 → k ≡ k + standingIn y (drop (2 * k) ls)
+stand-end y k ls h = let l = length-drop (2 * k) ls in go (drop (2 * k) ls) (omega arith)
+  where
+    go : (t : List ℕ) → length t ≤ 1 → k ≡ k + standingIn y t
+    go [] h = omega arith
+    go (x ∷ []) h = omega arith
+    go (x ∷ z ∷ t) h = absurd (omega arith)
+
+-- ---- packets
+
+abbrev pub counted : ℕ → ℕ → ℕ → ℕ → Tested
+counted sys k bytes packs = record { number = 0; place = 0; system = sys; packets = k; bytes = bytes; packs = packs }
+
+-- the figures of some packets, and those of a list behind them
+abbrev pub addTo : ℕ → ℕ → ℕ → ℕ → Outcome → Tested
+addTo sys k at packs (listed ps) = counted sys (k + length ps) (at + stringBytes ps) (packs + sum (map packsOf ps))
+addTo sys k at packs (refused n i) = testedOf sys (refused n i)
+
+-- the words from a place on, with the packets in front of them: what is left of the whole
+abbrev pub wholeFrom : ℕ → ℕ → ℕ → ℕ → List ℕ → Tested
+wholeFrom sys k at packs ws = addTo sys k at packs (packetsIn wordRow (length ws - at) k (drop at ws))
+
+add-nothing : (sys : ℕ) (o : Outcome) → addTo sys 0 0 0 o ≡ testedOf sys o
+add-nothing sys (listed ps) = simp zero-add
+add-nothing sys (refused n i) = refl
+
+pub at-first : (sys : ℕ) (ws : List ℕ) → wholeFrom sys 0 0 0 ws ≡ testedOf sys (packetsOfWords ws)
+unfolding packetsOfWords
+at-first sys ws = rw (sub-zero (length ws)) (add-nothing sys (packetsOfWords ws))
+
+add-also : (sys k at packs : ℕ) (p : Packet) (o : Outcome)
+    → addTo sys k at packs (also p o) ≡ addTo sys (k + 1) (at + bytesOf p) (packs + packsOf p) o
+add-also sys k at packs p (refused n i) = refl
+add-also sys k at packs p (listed ps) =
+    let a : k + suc (length ps) ≡ k + 1 + length ps = omega arith in
+    let b : at + (bytesOf p + stringBytes ps) ≡ at + bytesOf p + stringBytes ps = omega arith in
+    let c : packs + (packsOf p + sum (map packsOf ps)) ≡ packs + packsOf p + sum (map packsOf ps) = omega arith in
+    λ i. counted sys (a i) (b i) (c i)
+
+-- a packet without a fault has all its words
+pub fault-long : (s : List ℕ) → wordsFault s ≡ 0 → dcIn s + 7 ≤ length s
+unfolding wordsFault
+fault-long s e =
+    ltb-false (length s) (dcIn s + 7)
+    (go (ltb (length s) 7 || not (flagged s)) (not (areWords (take 3 (drop 3 s)))) (ltb (length s) (dcIn s + 7))
+    (cond (not (areWords (take (dcIn s) (drop 6 s)))) 8
+    (cond (not (eqb (getD s (dcIn s + 6) 0) (check (take (dcIn s + 3) (drop 3 s))))) 10 0)) e)
+  where
+    go : (a b c : Bool) (n : ℕ) → _≡_ {A = ℕ} (cond a 7 (cond b 8 (cond c 9 n))) 0 → c ≡ false
+    go true b c n e = absurd (omega arith)
+    go false true c n e = absurd (omega arith)
+    go false false true n e = absurd (omega arith)
+    go false false false n e = refl
+
+-- the packet at the front of some words, and those after it
+front : (left i : ℕ) (s : List ℕ) → 0 < length s
+    → packetsIn wordRow (suc left) i s
+    ≡ cond (eqb (wordsFault s) 0) (also (packetOfWords s) (packetsIn wordRow left (suc i) (drop (dcIn s + 7) s))) (refused (wordsFault s) i)
+unfolding wordRow
+front left i [] h = absurd (omega arith)
+front left i (w ∷ s) h = refl
+
+front-fault : (left i : ℕ) (s : List ℕ) → 0 < length s → 0 < left → (wordsFault s ≡ 0 → ⊥)
+    → packetsIn wordRow left i s ≡ refused (wordsFault s) i
+front-fault zero i s h l f = absurd (omega arith)
+front-fault (suc left) i s h l f = front left i s h ∙ rw (ne-eqb (wordsFault s) 0 f)
+
+front-fine : (left i : ℕ) (s : List ℕ) → 0 < length s → length s ≤ left → wordsFault s ≡ 0
+    → packetsIn wordRow left i s ≡ also (packetOfWords s) (packetsIn wordRow (left - (dcIn s + 7)) (i + 1) (drop (dcIn s + 7) s))
+front-fine zero i s h l f = absurd (omega arith)
+front-fine (suc left) i s h l f =
+    let k = length-drop (dcIn s + 7) s in
+    let z = fault-long s f in
+    front left i s h
+    ∙ rw (
+      f,
+      add-one i,
+      words-enough left (suc left - (dcIn s + 7)) (suc i) (drop (dcIn s + 7) s) (omega arith) (omega arith),
+    )
+
+-- no packet is left
+pub at-end : (sys k at packs : ℕ) (ws : List ℕ) → length ws ≤ at → counted sys k at packs ≡ wholeFrom sys k at packs ws
+unfolding wordRow
+at-end sys k at packs ws h =
+    let z : length ws - at ≡ 0 = omega arith in
+    rw (z, drop-of-length-le ws h) (simp add-zero)
+
+-- a place, and what the test of the packet there gave
+module _ (at : ℕ) (ws : List ℕ) (h : at < length ws) (f : ℕ) (e : f ≡ wordsFault (take (length ws - at) (drop at ws))) where
+  fault-is : f ≡ wordsFault (drop at ws)
+  fault-is = e ∙ ap wordsFault (rest-part at ws)
+
+  -- "the first at fault is named"
+  pub at-fault : (f ≡ 0 → ⊥) → (sys k packs : ℕ) → testedOf 0 (refused f k) ≡ wholeFrom sys k at packs ws
+  at-fault g sys k packs =
+      let l = length-drop at ws in
+      let o : packetsIn wordRow (length ws - at) k (drop at ws) ≡ refused (wordsFault (drop at ws)) k =
+      front-fault (length ws - at) k (drop at ws) (omega arith) (omega arith) (λ z. g (fault-is ∙ z)) in
+      sym (ap (addTo sys k at packs) (o ∙ ap (λ (n : ℕ). refused n k) (sym fault-is)))
+
+  module _ (z : f ≡ 0) where
+    fine : wordsFault (drop at ws) ≡ 0
+    fine = sym fault-is ∙ z
+
+    dc-is : dcIn (drop at ws) ≡ getD ws (at + 5) 0 % 256
+    dc-is = ap low (getD-drop at ws 5 0)
+
+    -- all its words are there
+    pub all-there : at + (getD ws (at + 5) 0 % 256 + 7) ≤ length ws
+    all-there = let d = dc-is in let l = length-drop at ws in let m = fault-long (drop at ws) fine in omega arith
+
+    -- one packet more
+    pub at-next : (dc : ℕ) → dc ≡ getD ws (at + 5) 0 % 256 → (sys k packs : ℕ)
+        → wholeFrom sys (k + 1) (at + (dc + 7)) (packs + (2 + (dc + 3) / 4)) ws ≡ wholeFrom sys k at packs ws
+    at-next dc e sys k packs =
+        let s : List ℕ = drop at ws in
+        let l : length s ≡ length ws - at = length-drop at ws in
+        let d : dcIn s ≡ dc = dc-is ∙ sym e in
+        let long : dcIn s + 7 ≤ length s = fault-long s fine in
+        let m : length (take (dcIn s) (drop 6 s)) ≡ dcIn s = length-take-le (dcIn s) (drop 6 s) (let n = length-drop 6 s in omega arith) in
+        let u : length (packetOfWords s .user) ≡ dc = length-map (take (dcIn s) (drop 6 s)) low ∙ m ∙ d in
+        let a : at + bytesOf (packetOfWords s) ≡ at + (dc + 7) = ap (λ (n : ℕ). at + (n + 7)) u in
+        let b : packs + packsOf (packetOfWords s) ≡ packs + (2 + (dc + 3) / 4) =
+        ap (λ (n : ℕ). packs + (1 + (1 + (n + 3) / 4))) u ∙ (omega arith) in
+        let n : length ws - at - (dcIn s + 7) ≡ length ws - (at + (dc + 7)) = omega arith in
+        let t : drop (dcIn s + 7) s ≡ drop (at + (dc + 7)) ws =
+        drop-drop (dcIn s + 7) at ws ∙ ap (λ (m : ℕ). drop (at + (m + 7)) ws) d in
+        sym
+        (ap (addTo sys k at packs) (front-fine (length ws - at) k s (omega arith) (omega arith) fine)
+        ∙ add-also sys k at packs (packetOfWords s) (packetsIn wordRow (length ws - at - (dcIn s + 7)) (k + 1) (drop (dcIn s + 7) s))
+        ∙ (λ i. addTo sys (k + 1) (a i) (b i) (packetsIn wordRow (n i) (k + 1) (t i))))
+
+-- ---- the list
+
+-- a packet's location is not in the figures
+abbrev plus : Packet → Tested → Tested
+plus p t = counted (t .system) (suc (t .packets)) (bytesOf p + t .bytes) (packsOf p + t .packs)
+
+located-figures : (sys : ℕ) (ls : List ℕ) (ps : List Packet) → length ls ≡ 2 * length ps
+    → testedOf sys (listed (located ls ps)) ≡ testedOf sys (listed ps)
+located-figures sys [] [] h = refl
+located-figures sys [] (p ∷ ps) h = absurd (omega arith)
+located-figures sys (l ∷ []) ps h = absurd (omega arith)
+located-figures sys (l ∷ f ∷ ls) [] h = absurd (omega arith)
+located-figures sys (l ∷ f ∷ ls) (p ∷ ps) h = ap (plus p) (located-figures sys ls ps (omega arith))
+
+-- "Packet k belongs to location k", where there are as many
+abbrev paired : List ℕ → List Packet → Outcome
+paired s ps = unless 11 (eqb (length ps) (countIn s)) (listed (located (locationsIn s) ps))
+
+-- a sheet's count, as the code has it
+module _ (sys : ℕ) (y : System) (s : List ℕ) (p : ℕ) (is : p ≡ countIn s) where
+  -- "P over 512"
+  pub too-many : 512 < p → testedOf 0 (refused 5 0) ≡ testedOf sys (listTests y s)
+  unfolding listTests limit
+  too-many h = rw (lt-leb (countIn s) 512 (omega arith))
+
+  -- what the code lends as locations, and how many of them it found to stand
+  module _ (sh : shaped s ≡ true) (few : p ≤ 512) (k : ℕ) (st : k ≡ standingIn y (take (3 + 2 * p - 3) (drop 3 s))) where
+    pairs : length (locationsIn s) ≡ 2 * p
+    pairs =
+        let l = length-drop 3 s in
+        let m = shaped-long s sh in
+        length-take-le (2 * countIn s) (drop 3 s) (omega arith) ∙ ap (λ (n : ℕ). 2 * n) (sym is)
+
+    count-is : k ≡ standingIn y (locationsIn s)
+    count-is = let e : 3 + 2 * p - 3 ≡ 2 * countIn s = omega arith in st ∙ ap (λ (n : ℕ). standingIn y (take n (drop 3 s))) e
+
+    from-six : listTests y s ≡ cond (eqb k p) (andThen (packetsOfWords (wordsIn s)) (paired s)) (refused 6 k)
+    unfolding listTests limit
+    from-six =
+        rw (
+          le-leb (countIn s) 512 (omega arith),
+          stand-count y 0 p (locationsIn s) _ pairs,
+          zero-add (standingIn y (locationsIn s)),
+          ← count-is,
+        )
+
+    -- "line or flags out of range"
+    pub out-of-range : (k ≡ p → ⊥) → testedOf 0 (refused 6 k) ≡ testedOf sys (listTests y s)
+    out-of-range h = rw (from-six, ne-eqb k p h)
+
+    -- what the code lends as words, and what it found in them
+    module _ (all : k ≡ p) (t : Tested)
+        (found : t ≡ testedOf sys (packetsOfWords (take (length s - (3 + 2 * p + 1)) (drop (3 + 2 * p + 1) s)))) where
+      found-is : t ≡ testedOf sys (packetsOfWords (wordsIn s))
+      found-is =
+          let e : 3 + 2 * p + 1 ≡ 4 + 2 * countIn s = omega arith in
+          found ∙ ap (λ (ws : List ℕ). testedOf sys (packetsOfWords ws)) (rest-part (3 + 2 * p + 1) s ∙ ap (λ (n : ℕ). drop n s) e)
+
+      from-words : listTests y s ≡ andThen (packetsOfWords (wordsIn s)) (paired s)
+      from-words = rw (from-six, eq-eqb k p all)
+
+      -- a packet at fault
+      pub packet-refused : (t .number ≡ 0 → ⊥) → t ≡ testedOf sys (listTests y s)
+      packet-refused h = go (packetsOfWords (wordsIn s)) found-is ∙ ap (testedOf sys) (sym from-words)
+        where
+          go : (o : Outcome) → t ≡ testedOf sys o → t ≡ testedOf sys (andThen o (paired s))
+          go (refused n i) e = e
+          go (listed ps) e = absurd (h (ap (λ (x : Tested). x .number) e))
+
+      -- no packet at fault: there is a list
+      list-of : t .number ≡ 0 → (ps : List Packet) × (packetsOfWords (wordsIn s) ≡ listed ps) × (t ≡ testedOf sys (listed ps))
+      list-of z = go (packetsOfWords (wordsIn s)) refl found-is
+        where
+          go : (o : Outcome) → packetsOfWords (wordsIn s) ≡ o → t ≡ testedOf sys o
+              → (ps : List Packet) × (packetsOfWords (wordsIn s) ≡ listed ps) × (t ≡ testedOf sys (listed ps))
+          go (listed ps) q e = (ps, q, e)
+          go (refused n i) q e =
+              let w = words-refused (wordsIn s) n i q in
+              let m : t .number ≡ n = ap (λ (x : Tested). x .number) e in
+              absurd (omega arith)
+
+      -- "packets and locations differ in number"
+      pub differ : t .number ≡ 0 → not (eqb (t .packets) p) ≡ true → testedOf 0 (refused 11 0) ≡ testedOf sys (listTests y s)
+      differ z h =
+          let l = list-of z in
+          let n : t .packets ≡ length (l .0) = ap (λ (x : Tested). x .packets) (l .2) in
+          let d : t .packets ≡ p → ⊥ = eqb-false (t .packets) p (not-true (eqb (t .packets) p) h) in
+          rw (from-words, l .1, ne-eqb (length (l .0)) (countIn s) (λ e. d (n ∙ e ∙ sym is)))
+
+      -- and the list stands
+      pub whole : t .number ≡ 0 → not (eqb (t .packets) p) ≡ false → t ≡ testedOf sys (listTests y s)
+      whole z h =
+          let l = list-of z in
+          let d : t .packets ≡ p = eqb-true (t .packets) p (not-false (eqb (t .packets) p) h) in
+          let n : length (l .0) ≡ p = ap (λ (x : Tested). x .packets) (sym (l .2)) ∙ d in
+          rw (from-words, l .1, eq-eqb (length (l .0)) (countIn s) (n ∙ is))
+          (l .2 ∙ sym (located-figures sys (locationsIn s) (l .0) (pairs ∙ ap (λ (m : ℕ). 2 * m) (sym n))))
+
+-- ---- the sheet
+
+module _ (s : List ℕ) where
+  pub misshapen : shaped s ≡ false → testedOf 0 (refused 2 0) ≡ tested s
+  unfolding tested sheetTests
+  misshapen e = rw e
+
+  -- a sheet of the right shape, and the figures of the system that it names
+  module _ (sh : shaped s ≡ true) (sys : ℕ) (is : sys ≡ systemIn s) (x : Figures) (found : x ≡ figuresOf sys) where
+    sequences-is : x .sequences ≡ system (systemIn s) .sequences
+    unfolding figuresOf
+    sequences-is = ap (λ (z : Figures). z .sequences) found ∙ ap (λ (n : ℕ). system n .sequences) is
+
+    last-is : system (systemIn s) .last ≡ x .«last_line» .0
+    unfolding figuresOf
+    last-is = sym (ap (λ (z : Figures). z .«last_line» .0) found ∙ ap (λ (n : ℕ). system n .last) is)
+
+    -- "system not 1 to 3"
+    pub unknown : x .sequences ≡ 0 → testedOf 0 (refused 3 0) ≡ tested s
+    unfolding tested sheetTests
+    unknown z = rw (sh, unknown-figures (systemIn s) (sym sequences-is ∙ z))
+
+    -- and the list's own tests
+    pub the-list : (x .sequences ≡ 0 → ⊥) → (r : Tested)
+        → ((y : System) → y .last ≡ x .«last_line» .0 → r ≡ testedOf sys (listTests y s)) → r ≡ tested s
+    unfolding tested sheetTests
+    the-list z r h =
+        rw (sh, known-figures (systemIn s) (λ e. z (sequences-is ∙ e)))
+        (h (system (systemIn s)) last-is ∙ ap (λ (n : ℕ). testedOf n (listTests (system (systemIn s)) s)) is)

@@ -1,0 +1,3 @@
+-- What the functions of this crate rest on, over plain values.
+pub mod Laws
+pub mod WriteLaws

@@ -1,0 +1,136 @@
+-- `sheet::list_tests` meets its contract, a test at a time, for every system with this last line. Assumes nothing.
+use Prim.Native.Nat.{ℕ, _+_, _*_, _≤_}
+use mathlib.Core.Path.{_∙_}
+use mathlib.Core.Logic.{⊎-elim}
+use mathlib.Core.List.{List}
+use native.Mathlib.Omega.{arith}
+use lib.ListN.{length}
+use borrow.Author.Needs.{needs}
+use Rattle.sheet.proofs.Laws.{shaped-long, too-many, out-of-range, packet-refused, differ, whole}
+use Rattle.sheet.proofs.list_tests.Statement.{statement}
+use Rattle.sheet.proofs.list_tests.Tie as tie
+
+-- section C begins within the sheet
+begins : (c : tie.After-wide) → 3 + 2 * c .wide .result + 1 ≤ length (c .before .before .before .args .s .now)
+begins c =
+    let l = shaped-long _ (c .before .before .before .pre) in
+    let p = c .wide .ensures .0 in
+    omega arith
+
+shared-slice-read-wide : tie.Need-shared-slice-read-wide
+shared-slice-read-wide c = let l = shaped-long _ (c .before .before .pre) in omega arith
+
+wide-requires : tie.Need-wide-requires
+wide-requires c κs = search needs
+
+refusal-requires : tie.Need-refusal-requires
+refusal-requires c κs = search needs
+
+returns : tie.Need-returns
+returns c =
+    let b : tie.After-wide = c .before .before in
+    let s : List ℕ = b .before .before .before .args .s .now in
+    λ y e. c .refusal .ensures ∙ too-many _ y s _ (b .wide .ensures .0) (omega arith)
+
+mul-end : tie.Need-mul-end
+mul-end c = search needs
+
+add-end : tie.Need-add-end
+add-end c = search needs
+
+sub-standing : tie.Need-sub-standing
+sub-standing c = search needs
+
+part-standing-start : tie.Need-part-standing-start
+part-standing-start c = search needs
+
+part-standing-end : tie.Need-part-standing-end
+part-standing-end c = let l = begins (c .before) in omega arith
+
+standing-requires : tie.Need-standing-requires
+standing-requires c κs = search needs
+
+refusal-requires-2 : tie.Need-refusal-requires-2
+refusal-requires-2 c κs = search needs
+
+returns-2 : tie.Need-returns-2
+returns-2 c =
+    let b : tie.Else1 = c .before .before .before .before in
+    let s : List ℕ = b .before .before .before .before .args .s .now in
+    let p = b .before .wide .ensures .0 in
+    λ y e.
+    let k = c .before .before .standing .ensures y e in
+    c .refusal2 .ensures ∙ out-of-range _ y s _ p (b .before .before .before .before .pre) (omega arith) _ k (c .before .if2 .taken)
+
+add-first : tie.Need-add-first
+add-first c = search needs
+
+mul-packets : tie.Need-mul-packets
+mul-packets c = search needs
+
+sub-packets : tie.Need-sub-packets
+sub-packets c = begins (c .before .before .before .before)
+
+part-packets-start : tie.Need-part-packets-start
+part-packets-start c = begins (c .before .before .before .before)
+
+part-packets-end : tie.Need-part-packets-end
+part-packets-end c = search needs
+
+packets-requires : tie.Need-packets-requires
+packets-requires c κs = search needs
+
+refusal-requires-3 : tie.Need-refusal-requires-3
+refusal-requires-3 c κs = search needs
+
+returns-3 : tie.Need-returns-3
+returns-3 c =
+    let n : tie.Else2 = c .before .before .before .before .before .before .before in
+    let b : tie.Else1 = n .before .before .before in
+    let s : List ℕ = b .before .before .before .before .args .s .now in
+    let p = b .before .wide .ensures .0 in
+    let t = c .before .before .before .before .before .packets .ensures in
+    λ y e.
+    let k = n .before .standing .ensures y e in
+    c .refusal3 .ensures
+    ∙ differ _ y s _ p (b .before .before .before .before .pre) (omega arith) _ k (n .if2 .left) _ t (c .before .before .before .if3 .taken) (c .before .if4 .taken)
+
+returns-4 : tie.Need-returns-4
+returns-4 c =
+    let n : tie.Else2 = c .before .before .before .before in
+    let b : tie.Else1 = n .before .before .before in
+    let s : List ℕ = b .before .before .before .before .args .s .now in
+    let p = b .before .wide .ensures .0 in
+    let t = c .before .before .packets .ensures in
+    λ y e.
+    let k = n .before .standing .ensures y e in
+    ⊎-elim
+    (λ w. whole _ y s _ p (b .before .before .before .before .pre) (omega arith) _ k (n .if2 .left) _ t (w .0 .taken) (w .2 .left))
+    (λ w. packet-refused _ y s _ p (b .before .before .before .before .pre) (omega arith) _ k (n .if2 .left) _ t (w .left))
+    (c .if3 .came)
+
+pub list-tests-spec : {M : Type 1} → statement M
+list-tests-spec =
+    tie.close
+    (tie.spec
+    shared-slice-read-wide
+    wide-requires
+    refusal-requires
+    returns
+    mul-end
+    add-end
+    sub-standing
+    part-standing-start
+    part-standing-end
+    standing-requires
+    refusal-requires-2
+    returns-2
+    add-first
+    mul-packets
+    sub-packets
+    part-packets-start
+    part-packets-end
+    packets-requires
+    refusal-requires-3
+    returns-3
+    returns-4)

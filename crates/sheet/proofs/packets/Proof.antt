@@ -1,0 +1,136 @@
+-- `sheet::packets` meets its contract. What the words from here on give, with the packets and figures so far, is what all of them give.
+-- A packet has at least 7 words and more words than packs, so no sum wraps. The measure is what is left of the words. Assumes nothing.
+use Prim.Native.Nat.{ℕ, _+_, _-_, _%_, _≤_}
+use mathlib.Core.Path.{_≡_, _∙_}
+use mathlib.Core.List.{List}
+use native.Mathlib.Omega.{arith}
+use lib.ListN.{length, getD}
+use borrow.Author.Needs.{needs}
+use Rattle.rules.specs.Laying.{packetsOfWords}
+use Rattle.rules.specs.Lister.{testedOf}
+use Rattle.sheet.proofs.Laws.{wholeFrom, at-first, at-end, at-fault, all-there, at-next}
+use Rattle.sheet.proofs.packets.Statement.{statement}
+use Rattle.sheet.proofs.packets.Tie as tie
+
+abbrev Inv-loop : tie.InvT-loop
+Inv-loop system ws at₀ k₀ packs₀ at k packs =
+    (at ≤ length ws) × (k ≤ at) × (packs ≤ at) × (wholeFrom system k at packs ws ≡ testedOf system (packetsOfWords ws))
+
+abbrev μ-loop : tie.MeasureT-loop
+μ-loop system ws at₀ k₀ packs₀ at k packs = length ws - at
+
+-- a packet that passed its test has all its words
+module _ (c : tie.Else1 Inv-loop μ-loop) where
+  abbrev ws : List ℕ
+  ws = c .before .before .before .before .before .before .args .ws .now
+
+  abbrev at : ℕ
+  at = c .before .before .before .before .loop .at
+
+  there : at + (getD ws (at + 5) 0 % 256 + 7) ≤ length ws
+  there = all-there at ws (c .before .before .before .loop-test .taken) _ (c .before .fault .ensures) (c .if1 .left)
+
+loop-holds : tie.Need-loop-holds Inv-loop μ-loop
+loop-holds c = (search needs, search needs, search needs, at-first _ _)
+
+mul-fault : tie.Need-mul-fault Inv-loop μ-loop
+mul-fault c = search needs
+
+sub-fault : tie.Need-sub-fault Inv-loop μ-loop
+sub-fault c = search needs
+
+part-fault-start : tie.Need-part-fault-start Inv-loop μ-loop
+part-fault-start c = search needs
+
+part-fault-end : tie.Need-part-fault-end Inv-loop μ-loop
+part-fault-end c = search needs
+
+fault-requires : tie.Need-fault-requires Inv-loop μ-loop
+fault-requires c κs = search needs
+
+refusal-requires : tie.Need-refusal-requires Inv-loop μ-loop
+refusal-requires c κs = search needs
+
+returns : tie.Need-returns Inv-loop μ-loop
+returns c =
+    let ws : List ℕ = c .before .before .before .before .before .before .before .args .ws .now in
+    let l = c .before .before .before .before .before .loop in
+    let i = c .before .before .before .before .loop-test .taken in
+    let f = c .before .before .fault .ensures in
+    let o = at-fault _ ws i _ f (c .before .if1 .taken) (c .before .before .before .before .before .before .before .args .system) _ (l .packs) in
+    c .refusal .ensures ∙ o ∙ l .inv .3
+
+add-wide : tie.Need-add-wide Inv-loop μ-loop
+add-wide c = search needs
+
+mul-wide : tie.Need-mul-wide Inv-loop μ-loop
+mul-wide c = search needs
+
+shared-slice-read-wide : tie.Need-shared-slice-read-wide Inv-loop μ-loop
+shared-slice-read-wide c = let l = there (c .before) in omega arith
+
+wide-requires : tie.Need-wide-requires Inv-loop μ-loop
+wide-requires c κs = search needs
+
+add-packs : tie.Need-add-packs Inv-loop μ-loop
+add-packs c = search needs
+
+add-packs-2 : tie.Need-add-packs-2 Inv-loop μ-loop
+add-packs-2 c = search needs
+
+add-packs-3 : tie.Need-add-packs-3 Inv-loop μ-loop
+add-packs-3 c = search needs
+
+add-at : tie.Need-add-at Inv-loop μ-loop
+add-at c = search needs
+
+add-at-2 : tie.Need-add-at-2 Inv-loop μ-loop
+add-at-2 c = search needs
+
+add-k : tie.Need-add-k Inv-loop μ-loop
+add-k c = search needs
+
+loop-less : tie.Need-loop-less Inv-loop μ-loop
+loop-less c = search needs
+
+loop-again : tie.Need-loop-again Inv-loop μ-loop
+loop-again c =
+    let b : tie.Else1 Inv-loop μ-loop = c .before .before in
+    let l = b .before .before .before .before .loop in
+    let i = b .before .before .before .loop-test .taken in
+    let f = b .before .fault .ensures in
+    let d = c .wide .ensures .0 in
+    let o = at-next _ (ws b) i _ f (b .if1 .left) _ d (b .before .before .before .before .before .before .args .system) (l .k) (l .packs) in
+    let m = there b in
+    (omega arith, omega arith, omega arith, o ∙ l .inv .3)
+
+returns-2 : tie.Need-returns-2 Inv-loop μ-loop
+returns-2 c = at-end _ _ _ _ (c .before .before .before .args .ws .now) (c .loop-test .left) ∙ c .before .loop .inv .3
+
+pub packets-spec : {M : Type 1} → statement M
+packets-spec =
+    tie.close
+    (tie.spec
+    Inv-loop
+    μ-loop
+    loop-holds
+    mul-fault
+    sub-fault
+    part-fault-start
+    part-fault-end
+    fault-requires
+    refusal-requires
+    returns
+    add-wide
+    mul-wide
+    shared-slice-read-wide
+    wide-requires
+    add-packs
+    add-packs-2
+    add-packs-3
+    add-at
+    add-at-2
+    add-k
+    loop-less
+    loop-again
+    returns-2)

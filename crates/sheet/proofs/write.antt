@@ -1,0 +1,2 @@
+-- What the proofs of the module's functions cite.
+mod Written

@@ -1,0 +1,405 @@
+-- What is written of a sheet so far, and then what is still to be written.
+--
+-- In order: a number, two numbers, a part more; three numbers, a part and a number; bytes as words; locations; the words of packets;
+-- the words of one packet; the sections; the sheet.
+-- Assumes nothing.
+use Prim.Native.Nat.{ℕ, suc, _+_, _-_, _*_, _≤_, _<_}
+use mathlib.Core.Path.{_≡_, refl, sym, ap, ap₂, _∙_}
+use mathlib.Core.Bool.{false}
+use mathlib.Core.List.{List, [], _∷_, _++_, map, append-assoc, append-nil}
+use native.Mathlib.Omega.{arith}
+use native.Mathlib.Numerals.{add-one, add-three, add-seven}
+use lib.Dec.{leb}
+use lib.ListN.{length, getD, take, drop, set, length-append, length-drop, length-set, length-map, drop-of-length-le}
+use lib.Seq.{length-take-le, getD-take, getD-drop, drop-cons, take-suc-set, take-at, take-all, take-take, append-snoc}
+use borrow.Author.Tests.{lt-leb, le-leb}
+use Rattle.rules.specs.Packet.{Packet, body, word, check, coded, checkOf, words}
+use Rattle.rules.specs.Sheet.{locations, allWords, sheetOf}
+use Rattle.rules.specs.Numbers.{Outcome, listed, refused}
+use Rattle.rules.specs.Reading.{lineOf, flagsOf, packetOfBytes}
+use Rattle.rules.proofs.Basics.{second-false}
+use Rattle.rules.proofs.Words.{words-room}
+use Rattle.rules.proofs.Sheets.{sheet-length}
+use Rattle.sheet.specs.Write.{sizeIn, shown, hasRoom, wroteOf, wrote, afterOf, sheetAfter, listIn, packetsShown, Whole, Measured, countFrom}
+use Rattle.sheet.proofs.WriteLaws.{size-at, words-long, whole-long, pass, passed-all}
+
+-- ---- what stands before a place, and then r
+
+-- one number more
+one-more : (out : List ℕ) (i a : ℕ) (r : List ℕ) → i < length out → take (i + 1) (set out i a) ++ r ≡ take i out ++ a ∷ r
+one-more out i a r h = rw (add-one i, take-suc-set out i a h) (append-snoc (take i out) a r)
+
+-- two numbers more
+two-more : (out : List ℕ) (i a b : ℕ) (r : List ℕ) → i + 1 < length out → take (i + 2) (set (set out i a) (i + 1) b) ++ r ≡ take i out ++ a ∷ b ∷ r
+two-more out i a b r h =
+    let e : i + 2 ≡ i + 1 + 1 = omega arith in
+    let l = length-set out i a in
+    rw e (one-more (set out i a) (i + 1) b r (omega arith) ∙ one-more out i a (b ∷ r) (omega arith))
+
+-- a part more, which was lent and came back
+module _ (out ys : List ℕ) (at end : ℕ) (h : at ≤ end) (k : end ≤ length out) (l : length ys ≡ end - at) where
+  abbrev after : List ℕ
+  after = drop (end - at) (drop at out)
+
+  front-long : length (take at out ++ ys) ≡ end
+  front-long = length-append (take at out) ys ∙ (let m = length-take-le at out (omega arith) in omega arith)
+
+  part-long : length (take at out ++ (ys ++ after)) ≡ length out
+  part-long =
+      let a = length-append (take at out ++ ys) after in
+      let b = length-drop (end - at) (drop at out) in
+      let c = length-drop at out in
+      let d = front-long in
+      ap length (sym (append-assoc (take at out) ys after)) ∙ (omega arith)
+
+  part-more : (r : List ℕ) → take end (take at out ++ (ys ++ after)) ++ r ≡ take at out ++ (ys ++ r)
+  part-more r =
+      let e : take end (take at out ++ (ys ++ after)) ≡ take at out ++ ys =
+      ap (take end) (sym (append-assoc (take at out) ys after)) ∙ take-at (take at out ++ ys) after end front-long in
+      rw e (append-assoc (take at out) ys r)
+
+-- all is written
+pub all-written : (out r goal : List ℕ) (i : ℕ) → length out ≤ i → r ≡ [] → take i out ++ r ≡ goal → out ≡ goal
+all-written out r goal i h e inv = sym (ap (λ (t : List ℕ). take i out ++ t) e ∙ append-nil (take i out) ∙ take-all i out h) ∙ inv
+
+-- ---- three numbers, a part that was lent, and a number after it
+
+abbrev pub threeOf : List ℕ → ℕ → ℕ → ℕ → List ℕ
+threeOf out x y z = set (set (set out 0 x) 1 y) 2 z
+
+abbrev pub backOf : List ℕ → List ℕ → ℕ → List ℕ
+backOf three ys mid = take 3 three ++ (ys ++ drop (mid - 3) (drop 3 three))
+
+module _ (out ys : List ℕ) (x y z mid v : ℕ) (h : 3 ≤ mid) (k : mid < length out) (l : length ys ≡ mid - 3) where
+  abbrev three : List ℕ
+  three = threeOf out x y z
+
+  abbrev back : List ℕ
+  back = backOf three ys mid
+
+  three-head : take 3 three ≡ x ∷ y ∷ z ∷ []
+  three-head = go out (omega arith)
+    where
+      go : (out : List ℕ) → 3 ≤ length out → take 3 (set (set (set out 0 x) 1 y) 2 z) ≡ x ∷ y ∷ z ∷ []
+      go [] h = absurd (omega arith)
+      go (a ∷ []) h = absurd (omega arith)
+      go (a ∷ b ∷ []) h = absurd (omega arith)
+      go (a ∷ b ∷ c ∷ out) h = refl
+
+  back-is : back ≡ (x ∷ y ∷ z ∷ ys) ++ drop (mid - 3) (drop 3 three)
+  back-is = ap (λ (t : List ℕ). t ++ (ys ++ drop (mid - 3) (drop 3 three))) three-head
+
+  back-long : length back ≡ length out
+  back-long =
+      let d : length three ≡ length out = simp length-set in
+      part-long three ys 3 mid h (omega arith) l ∙ d
+
+  -- the part, seen again
+  back-part : take (mid - 3) (drop 3 back) ≡ ys
+  back-part = rw back-is (take-at ys (drop (mid - 3) (drop 3 three)) (mid - 3) l)
+
+  back-set : take (mid + 1) (set back mid v) ≡ (x ∷ y ∷ z ∷ ys) ++ v ∷ []
+  back-set =
+      let b = back-long in
+      let f : take mid back ≡ x ∷ y ∷ z ∷ ys = rw back-is (take-at (x ∷ y ∷ z ∷ ys) (drop (mid - 3) (drop 3 three)) mid (omega arith)) in
+      rw (add-one mid) (take-suc-set back mid v (omega arith) ∙ ap (λ (t : List ℕ). t ++ v ∷ []) f)
+
+-- ---- bytes as words
+
+pub coded-more : (s out : List ℕ) (i w : ℕ) → i < length s → length out ≡ length s → w ≡ word (getD s i 0)
+    → take i out ++ map word (drop i s) ≡ map word s → take (i + 1) (set out i w) ++ map word (drop (i + 1) s) ≡ map word s
+coded-more s out i w h l e inv =
+    one-more out i w (map word (drop (i + 1) s)) (omega arith)
+    ∙ rw (e, add-one i) (ap (λ (t : List ℕ). take i out ++ map word t) (sym (drop-cons s i 0 h)))
+    ∙ inv
+
+-- ---- locations
+
+locations-long : (ps : List Packet) → length (locations ps) ≡ 2 * length ps
+locations-long [] = refl
+locations-long (p ∷ ps) = let k = locations-long ps in omega arith
+
+-- the locations of the packets before `at` are written
+pub record Locating (s out : List ℕ) (at i : ℕ) : Type 0 where
+  pub whole : Whole (drop at s)
+  pub left : i + 2 * length (packetsShown (drop at s)) ≡ length out
+  pub rest : take i out ++ locations (packetsShown (drop at s)) ≡ locations (packetsShown s)
+
+pub locating-none : (s out : List ℕ) → Whole s → length out ≡ 2 * length (packetsShown s) → Locating s out 0 0
+locating-none s out w h = record { whole = w; left = omega arith; rest = refl }
+
+pub locating-all : (s out : List ℕ) (at i : ℕ) → Locating s out at i → length s ≤ at → out ≡ locations (packetsShown s)
+locating-all s out at i was h =
+    let n = passed-all s at h in
+    let m : length (packetsShown (drop at s)) ≡ 0 = ap length n in
+    let k = was .left in
+    all-written out (locations (packetsShown (drop at s))) (locations (packetsShown s)) i (omega arith) (ap locations n) (was .rest)
+
+module _ (s out : List ℕ) (at i : ℕ) (was : Locating s out at i) (h : at < length s) where
+  pub locating-room : i + 2 ≤ length out
+  locating-room =
+      let l : length (packetsShown (drop at s)) ≡ suc (length (packetsShown (drop (at + (getD s (at + 5) 0 + 7)) s))) =
+      ap length (pass s at (getD s (at + 5) 0) (was .whole) h refl .front) in
+      let k = was .left in
+      omega arith
+
+  pub locating-more : (dc line flags : ℕ) → dc ≡ getD s (at + 5) 0 → line ≡ lineOf (getD s at 0) (getD s (at + 1) 0) → flags ≡ flagsOf (getD s (at + 1) 0)
+      → Locating s (set (set out i line) (i + 1) flags) (at + (dc + 7)) (i + 2)
+  locating-more dc line flags e f g =
+      let p = pass s at dc (was .whole) h e in
+      let m = locating-room in
+      let k = was .left in
+      let qs : List Packet = packetsShown (drop (at + (dc + 7)) s) in
+      let l : length (packetsShown (drop at s)) ≡ suc (length qs) = ap length (p .front) in
+      let z : at + 0 ≡ at = omega arith in
+      let a : packetOfBytes (drop at s) .line ≡ line = rw (getD-drop at s 0 0, getD-drop at s 1 0, z) (sym f) in
+      let b : packetOfBytes (drop at s) .flags ≡ flags = rw (getD-drop at s 1 0) (sym g) in
+      let n : locations (packetsShown (drop at s)) ≡ line ∷ flags ∷ locations qs =
+      ap locations (p .front) ∙ ap₂ (λ (x v : ℕ). x ∷ v ∷ locations qs) a b in
+      record {
+        whole = p .rest;
+        left = simp length-set (omega arith);
+        rest = two-more out i line flags (locations qs) (omega arith) ∙ ap (λ (t : List ℕ). take i out ++ t) (sym n) ∙ was .rest;
+      }
+
+-- ---- the words of packets
+
+-- the bytes of one packet, cut out of a string
+module _ (t : List ℕ) (n : ℕ) (h : n ≡ sizeIn t) (k : n ≤ length t) where
+  part-size : length (take n t) ≡ sizeIn (take n t)
+  part-size = let l = length-take-le n t k in let e = getD-take n t 5 0 (omega arith) in omega arith
+
+  part-packet : packetOfBytes (take n t) ≡ packetOfBytes t
+  part-packet = ap (λ (m : ℕ). packetOfBytes (take m t)) h ∙ go t
+    where
+      go : (t : List ℕ) → packetOfBytes (take (sizeIn t) t) ≡ packetOfBytes t
+      go [] = refl
+      go (a ∷ []) = refl
+      go (a ∷ b ∷ []) = refl
+      go (a ∷ b ∷ c ∷ []) = refl
+      go (a ∷ b ∷ c ∷ d ∷ []) = refl
+      go (a ∷ b ∷ c ∷ d ∷ e ∷ []) = refl
+      go (a ∷ b ∷ c ∷ d ∷ e ∷ f ∷ u) = let h : f ≤ suc f = omega arith in rw (add-seven f, take-take f (suc f) u h)
+
+-- the words of the packets before `at` are written
+pub record Wording (s out : List ℕ) (at : ℕ) : Type 0 where
+  pub whole : Whole (drop at s)
+  pub long : length out ≡ length s
+  pub rest : take at out ++ allWords (packetsShown (drop at s)) ≡ allWords (packetsShown s)
+
+pub wording-all : (s out : List ℕ) (at : ℕ) → Wording s out at → length s ≤ at → out ≡ allWords (packetsShown s)
+wording-all s out at was h =
+    let n = passed-all s at h in
+    let l = was .long in
+    all-written out (allWords (packetsShown (drop at s))) (allWords (packetsShown s)) at (omega arith) (ap allWords n) (was .rest)
+
+module _ (s out : List ℕ) (at dc : ℕ) (was : Wording s out at) (h : at < length s) (e : dc ≡ getD s (at + 5) 0) where
+  abbrev end : ℕ
+  end = at + (dc + 7)
+
+  abbrev bytes : List ℕ
+  bytes = take (end - at) (drop at s)
+
+  inside : end ≤ length s
+  inside = pass s at dc (was .whole) h e .inside
+
+  size : end - at ≡ sizeIn (drop at s)
+  size = let z = size-at s at dc e in omega arith
+
+  enough : end - at ≤ length (drop at s)
+  enough = let k = inside in let d = length-drop at s in omega arith
+
+  -- what is lent to `write_words`: the bytes of a packet, and as many numbers
+  pub wording-lent : (length bytes ≡ sizeIn bytes) × (length (take (end - at) (drop at out)) ≡ length bytes)
+  wording-lent =
+      let k = inside in
+      let l = was .long in
+      let a = length-take-le (end - at) (drop at out) (let d = length-drop at out in omega arith) in
+      let b = length-take-le (end - at) (drop at s) enough in
+      (part-size (drop at s) (end - at) size enough, omega arith)
+
+  -- what comes back
+  module _ (ys : List ℕ) (q : ys ≡ words (packetOfBytes bytes)) where
+    ys-are : ys ≡ words (packetOfBytes (drop at s))
+    ys-are = q ∙ ap words (part-packet (drop at s) (end - at) size enough)
+
+    ys-long : length ys ≡ end - at
+    ys-long =
+        let n = words-long (drop at s) (let k = enough in let z = size in omega arith) in
+        ap length ys-are ∙ n ∙ sym size
+
+    pub wording-more : Wording s (take at out ++ (ys ++ drop (end - at) (drop at out))) end
+    wording-more =
+        let p = pass s at dc (was .whole) h e in
+        let k = p .inside in
+        let l = was .long in
+        let qs : List Packet = packetsShown (drop end s) in
+        let n : allWords (packetsShown (drop at s)) ≡ ys ++ allWords qs =
+        ap allWords (p .front) ∙ ap (λ (v : List ℕ). v ++ allWords qs) (sym ys-are) in
+        record {
+          whole = p .rest;
+          long = part-long out ys at end (omega arith) (omega arith) ys-long ∙ l;
+          rest = part-more out ys at end (omega arith) (omega arith) ys-long (allWords qs) ∙ ap (λ (v : List ℕ). take at out ++ v) (sym n) ∙ was .rest;
+        }
+
+-- ---- the words of one packet
+
+-- the bytes from DID to the last user byte
+body-bytes : (s : List ℕ) → length s ≡ sizeIn s → take (length s - 1 - 3) (drop 3 s) ≡ body (packetOfBytes s)
+body-bytes [] h = absurd (omega arith)
+body-bytes (a ∷ []) h = absurd (omega arith)
+body-bytes (a ∷ b ∷ []) h = absurd (omega arith)
+body-bytes (a ∷ b ∷ c ∷ []) h = absurd (omega arith)
+body-bytes (a ∷ b ∷ c ∷ d ∷ []) h = absurd (omega arith)
+body-bytes (a ∷ b ∷ c ∷ d ∷ e ∷ []) h = absurd (omega arith)
+body-bytes (a ∷ b ∷ c ∷ d ∷ e ∷ n ∷ t) h =
+    let s : List ℕ = a ∷ b ∷ c ∷ d ∷ e ∷ n ∷ t in
+    let k : length s - 1 - 3 ≡ n + 3 = omega arith in
+    let l : length (take n t) ≡ n = length-take-le n t (omega arith) in
+    rw (k, add-three n) (ap (λ (m : ℕ). d ∷ e ∷ m ∷ take n t) (sym l))
+
+module _ (s out ys : List ℕ) (cs : ℕ) (hs : length s ≡ sizeIn s) (ho : length out ≡ length s) (hy : ys ≡ map word (take (length s - 1 - 3) (drop 3 s))) where
+  abbrev last : ℕ
+  last = length s - 1
+
+  coded-long : length ys ≡ last - 3
+  coded-long =
+      ap length hy ∙ length-map (take (last - 3) (drop 3 s)) word ∙ length-take-le (last - 3) (drop 3 s) (let d = length-drop 3 s in omega arith)
+
+  abbrev lent : List ℕ
+  lent = backOf (threeOf out 0x000 0x3FF 0x3FF) ys last
+
+  pub lent-long : length lent ≡ length out
+  lent-long = back-long out ys 0x000 0x3FF 0x3FF last cs (omega arith) (omega arith) coded-long
+
+  pub words-written : cs ≡ check (take (last - 3) (drop 3 lent)) → set lent last cs ≡ words (packetOfBytes s)
+  unfolding words coded checkOf
+  words-written e =
+      let c : ys ≡ map word (body (packetOfBytes s)) = hy ∙ ap (map word) (body-bytes s hs) in
+      let f : cs ≡ check (map word (body (packetOfBytes s))) =
+      e ∙ ap check (back-part out ys 0x000 0x3FF 0x3FF last cs (omega arith) (omega arith) coded-long ∙ c) in
+      let n : length (set lent last cs) ≡ last + 1 = length-set lent last cs ∙ lent-long ∙ (omega arith) in
+      sym (take-all (last + 1) (set lent last cs) (omega arith))
+      ∙ back-set out ys 0x000 0x3FF 0x3FF last cs (omega arith) (omega arith) coded-long
+      ∙ ap₂ (λ (t : List ℕ) (w : ℕ). 0x000 ∷ 0x3FF ∷ 0x3FF ∷ (t ++ w ∷ [])) c f
+
+-- ---- the sections
+
+module _ (sys packets : ℕ) (s out ls : List ℕ) (m : Measured packets s out) (hl : ls ≡ locations (packetsShown s)) where
+  abbrev mid : ℕ
+  mid = 3 + 2 * packets
+
+  abbrev before : List ℕ
+  before = backOf (threeOf out 1 sys packets) ls mid
+
+  abbrev counted : List ℕ
+  counted = set before mid (length s)
+
+  ls-long : length ls ≡ mid - 3
+  ls-long = ap length hl ∙ locations-long (packetsShown s) ∙ (let c = m .count in omega arith)
+
+  pub before-long : length before ≡ length out
+  before-long = let r = m .room in back-long out ls 1 sys packets mid (length s) (omega arith) (omega arith) ls-long
+
+  counted-long : length counted ≡ length out
+  counted-long = length-set before mid (length s) ∙ before-long
+
+  -- what is lent for the words
+  pub words-lent : length (take (length counted - (mid + 1)) (drop (mid + 1) counted)) ≡ length s
+  words-lent =
+      let r = m .room in
+      let c = counted-long in
+      let d = length-drop (mid + 1) counted in
+      length-take-le (length counted - (mid + 1)) (drop (mid + 1) counted) (omega arith) ∙ (omega arith)
+
+  module _ (ws : List ℕ) (hw : ws ≡ allWords (packetsShown s)) where
+    ws-long : length ws ≡ length counted - (mid + 1)
+    ws-long =
+        let r = m .room in
+        let c = counted-long in
+        let w = whole-long s (m .whole) .same in
+        ap length hw ∙ (omega arith)
+
+    pub sections-long : length (take (mid + 1) counted ++ (ws ++ drop (length counted - (mid + 1)) (drop (mid + 1) counted))) ≡ length out
+    sections-long =
+        let r = m .room in
+        let c = counted-long in
+        part-long counted ws (mid + 1) (length counted) (omega arith) (omega arith) ws-long ∙ c
+
+    pub sections-written : take (mid + 1) counted ++ (ws ++ drop (length counted - (mid + 1)) (drop (mid + 1) counted)) ≡ sheetOf sys (packetsShown s)
+    unfolding sheetOf
+    sections-written =
+        let r = m .room in
+        let d = length-drop (mid + 1) counted in
+        let head : take (mid + 1) counted ≡ (1 ∷ sys ∷ packets ∷ ls) ++ length s ∷ [] =
+        back-set out ls 1 sys packets mid (length s) (omega arith) (omega arith) ls-long in
+        let l : length (drop (mid + 1) counted) ≤ length counted - (mid + 1) = omega arith in
+        let none : drop (length counted - (mid + 1)) (drop (mid + 1) counted) ≡ [] = drop-of-length-le (drop (mid + 1) counted) l in
+        let n : length s ≡ length (allWords (packetsShown s)) = sym (whole-long s (m .whole) .same) in
+        let w : ws ++ [] ≡ allWords (packetsShown s) = append-nil ws ∙ hw in
+        ap₂ (λ (a b : List ℕ). a ++ (ws ++ b)) head none
+        ∙ append-assoc (1 ∷ sys ∷ packets ∷ ls) (length s ∷ []) (ws ++ [])
+        ∙ (λ i. (1 ∷ sys ∷ m .count i ∷ hl i) ++ n i ∷ w i)
+
+-- ---- the sheet
+
+module _ (sys : ℕ) (s buffer : List ℕ) where
+  abbrev Answer : ℕ → List ℕ → Type 0
+  Answer n after = (n ≡ wrote sys s (length buffer)) × (after ≡ sheetAfter sys s buffer)
+
+  -- nothing is written
+  nothing : (o : Outcome) → shown s ≡ o → ((ps : List Packet) → o ≡ listed ps → hasRoom sys (length s) (length buffer) ps ≡ false) → Answer 0 buffer
+  unfolding wrote sheetAfter
+  nothing (refused n i) e h = rw e (refl, refl)
+  nothing (listed ps) e h = rw (e, h ps refl) (refl, refl)
+
+  pub too-long : 65535 < length s → Answer 0 buffer
+  too-long h = nothing (shown s) refl (λ ps e. rw (lt-leb (length s) 65535 h))
+
+  -- where the bytes are whole packets, so many
+  module _ (packets : ℕ) (w : Whole s) (c : packets ≡ length (packetsShown s)) where
+    numbers : length (sheetOf sys (packetsShown s)) ≡ 4 + 2 * packets + length s
+    numbers =
+        let a = sheet-length sys (packetsShown s) in
+        let b = words-room (packetsShown s) in
+        let d = whole-long s w .same in
+        omega arith
+
+    pub no-room : length buffer < 4 + 2 * packets + length s → Answer 0 buffer
+    no-room h = nothing (shown s) refl full
+      where
+        full : (ps : List Packet) → shown s ≡ listed ps → hasRoom sys (length s) (length buffer) ps ≡ false
+        full ps q =
+            let n : length (sheetOf sys ps) ≡ 4 + 2 * packets + length s = ap (λ (o : Outcome). length (sheetOf sys (listIn o))) (sym q) ∙ numbers in
+            second-false (leb (length s) 65535) (leb (length (sheetOf sys ps)) (length buffer)) (lt-leb (length (sheetOf sys ps)) (length buffer) (omega arith))
+
+    pub all-room : length s ≤ 65535 → 4 + 2 * packets + length s ≤ length buffer → (ys : List ℕ) → ys ≡ sheetOf sys (packetsShown s)
+        → Answer (4 + 2 * packets + length s) (ys ++ drop (4 + 2 * packets + length s) buffer)
+    unfolding wrote sheetAfter
+    all-room few h ys q = go (shown s) (packetsShown s) w q numbers
+      where
+        go : (o : Outcome) (ps : List Packet) → o ≡ listed ps → ys ≡ sheetOf sys ps → length (sheetOf sys ps) ≡ 4 + 2 * packets + length s
+            → (4 + 2 * packets + length s ≡ wroteOf sys (length s) (length buffer) o)
+            × (ys ++ drop (4 + 2 * packets + length s) buffer ≡ afterOf sys (length s) buffer o)
+        go o ps e q n =
+            rw (e, le-leb (length s) 65535 few, n, le-leb (4 + 2 * packets + length s) (length buffer) h)
+            (refl, ap (λ (t : List ℕ). t ++ drop (4 + 2 * packets + length s) buffer) q)
+
+  -- what `measure` answers
+  module _ (r : ℕ) (e : r ≡ countFrom 0 (shown s)) (few : length s ≤ 65535) where
+    pub not-whole : r ≡ 65536 → Answer 0 buffer
+    not-whole h = nothing (shown s) refl many
+      where
+        many : (ps : List Packet) → shown s ≡ listed ps → hasRoom sys (length s) (length buffer) ps ≡ false
+        many ps q =
+            let k = whole-long s (q ∙ ap (λ (o : Outcome). listed (listIn o)) (sym q)) .few in
+            let l : length (packetsShown s) ≡ length ps = ap (λ (o : Outcome). length (listIn o)) q in
+            let n : r ≡ 0 + length ps = e ∙ ap (countFrom 0) q in
+            absurd (omega arith)
+
+    pub is-whole : (r ≡ 65536 → ⊥) → Whole s × (r ≡ length (packetsShown s))
+    is-whole h = go (shown s) e
+      where
+        go : (o : Outcome) → r ≡ countFrom 0 o → (o ≡ listed (listIn o)) × (r ≡ length (listIn o))
+        go (listed ps) e = (refl, omega arith)
+        go (refused n i) e = absurd (h e)

@@ -1,0 +1,138 @@
+// The sheet (document 01, "The sheet"): the tests 2, 3 and 5 to 11 of its numbers, in the order in which refusals are given; and, in the
+// module write, writing one.
+// Other calls start with `test`; what each function gives is a definition of the crate rules.
+ghost use mathlib.Core.Path.{_≡_};
+ghost use mathlib.Core.Bool.{true};
+ghost use Prim.Native.Nat.{_<_};
+ghost use Rattle.rules.specs.Systems.{System};
+ghost use Rattle.rules.specs.Numbers.{refused};
+ghost use Rattle.rules.specs.Laying.{packetsOfWords, shaped, listTests};
+ghost use Rattle.rules.specs.Lister.{testedOf};
+ghost use Rattle.rules.specs.Demands.{Tests};
+ghost use Rattle.sheet.specs.Standing.{standingIn};
+
+mod write;
+
+use frame::Line;
+use rules::Tested;
+pub use write::write_sheet;
+
+// "P is at most 512."
+const LIMIT: usize = 512;
+
+// A number of the sheet as a place, so that no caller has to show that the cast keeps it.
+fn wide(x: u16) -> usize
+    ensures { λ r. ⌜ (r ≡ x) × (r < 65536) ⌝ }
+{
+    x as usize
+}
+
+// "On refusal the later figures are 0".
+fn refusal(number: u64, place: u64) -> Tested
+    ensures { λ r. ⌜ r ≡ testedOf 0 (refused number place) ⌝ }
+{
+    Tested {
+        number,
+        place,
+        system: 0,
+        packets: 0,
+        bytes: 0,
+        packs: 0,
+    }
+}
+
+// "2 | section A's count is not 1, the sheet ends early, or numbers follow section C".
+// "A sheet has 4 + 2P + W numbers": up to 196,609, so the sums are of places and not of the sheet's own numbers.
+fn is_shaped(s: &[u16]) -> bool
+    ensures { λ r. ⌜ r ≡ shaped (now (s .entry)) ⌝ }
+{
+    if s.len() < 4 || s[0] != 1 {
+        return false;
+    }
+    let first = 4 + 2 * wide(s[2]);
+    if s.len() < first {
+        return false;
+    }
+    let w = first - 1;
+    s.len() == first + wide(s[w])
+}
+
+// "6 | line or flags out of range | location": how many locations in front of the first at fault. Each is a pair, "line (0 for none,
+// else 1 to the last line) and flags 0 to 3".
+fn standing(last: Line, ls: &[u16]) -> usize
+    ensures { λ r. ⌜ ((y : System) → y .last ≡ last .0 → r ≡ standingIn y (now (ls .entry))) ⌝ }
+{
+    let mut k = 0;
+    while k < ls.len() / 2 {
+        if ls[2 * k] > last.0 || ls[2 * k + 1] > 3 {
+            return k;
+        }
+        k += 1;
+    }
+    k
+}
+
+// "Then packet by packet", "packets back to back": the first packet at fault, or the figures of all of them.
+// "A DANC packet has as many bytes as its VANC packet has words, DC + 7." "A packet takes 2 + DC/4 packs, the quotient rounded up."
+fn packets(system: u64, ws: &[u16]) -> Tested
+    ensures { λ r. ⌜ r ≡ testedOf system (packetsOfWords (now (ws .entry))) ⌝ }
+{
+    let mut at = 0;
+    let mut k: u64 = 0;
+    let mut packs: u64 = 0;
+    while at < ws.len() {
+        let f = packet::fault(&ws[at..]);
+        if f != 0 {
+            return refusal(f, k);
+        }
+        let dc = wide(ws[at + 5] % 256);
+        packs += 2 + ((dc + 3) / 4) as u64;
+        at += dc + 7;
+        k += 1;
+    }
+    Tested {
+        number: 0,
+        place: 0,
+        system,
+        packets: k,
+        bytes: at as u64,
+        packs,
+    }
+}
+
+// The tests of the list: "5 | laying: P over 512", 6, 7 to 10 packet by packet, "11 | packets and locations differ in number".
+fn list_tests(system: u64, last: Line, s: &[u16]) -> Tested
+    requires { ⌜ shaped (now s) ≡ true ⌝ }
+    ensures { λ r. ⌜ ((y : System) → y .last ≡ last .0 → r ≡ testedOf system (listTests y (now (s .entry)))) ⌝ }
+{
+    let p = wide(s[2]);
+    if p > LIMIT {
+        return refusal(5, 0);
+    }
+    let end = 3 + 2 * p;
+    let k = standing(last, &s[3..end]);
+    if k != p {
+        return refusal(6, k as u64);
+    }
+    let first = end + 1;
+    let t = packets(system, &s[first..]);
+    if t.number == 0 && t.packets != p as u64 {
+        return refusal(11, 0);
+    }
+    t
+}
+
+// "the tests 2, 3, 5 to 11" of any numbers whatever: "3 | system not 1 to 3" stands before the list's own.
+pub fn test(s: &[u16]) -> Tested
+    ensures { λ r. ⌜ Tests (now (s .entry)) r ⌝ }
+{
+    if !is_shaped(s) {
+        return refusal(2, 0);
+    }
+    let system = wide(s[1]) as u64;
+    let figures = frame::figures_of(system);
+    if figures.sequences == 0 {
+        return refusal(3, 0);
+    }
+    list_tests(system, figures.last_line, s)
+}

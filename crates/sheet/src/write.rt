@@ -1,0 +1,152 @@
+// Writing the sheet of packets: "16-bit numbers .. in three sections, each after its count".
+// The packets come as a string of DANC bytes, which is what a reader has found. The string is measured before a number is written,
+// so that a buffer without room for the sheet stays as it was.
+ghost use mathlib.Core.Path.{_≡_};
+ghost use mathlib.Core.List.{map};
+ghost use Prim.Native.Nat.{_*_, _≤_, _<_};
+ghost use lib.ListN.{length, drop};
+ghost use Rattle.rules.specs.Packet.{word, words};
+ghost use Rattle.rules.specs.Sheet.{locations, allWords, sheetOf};
+ghost use Rattle.rules.specs.Reading.{lineOf, flagsOf, packetOfBytes};
+ghost use Rattle.sheet.specs.Write.{sizeIn, shown, wrote, sheetAfter, packetsShown, Whole, Measured, countFrom};
+
+// What `measure` answers where the bytes are not whole packets: no count of packets in 65,535 bytes.
+const NOT_WHOLE: usize = 65536;
+
+fn wide(b: u8) -> usize
+    ensures { λ r. ⌜ (r ≡ b) × (r < 256) ⌝ }
+{
+    b as usize
+}
+
+// "a reader disregards line bits when LE is 0"; bits 6 to 0 stand in header byte 0, bits 10 to 7 in header byte 1 (001, figure 6).
+fn line_of(h0: u8, h1: u8) -> u16
+    ensures { λ r. ⌜ r ≡ lineOf h0 h1 ⌝ }
+{
+    if h0 < 128 {
+        return 0;
+    }
+    (h0 % 128) as u16 + (h1 % 16) as u16 * 128
+}
+
+// "bit 0 is FI, bit 1 is YCF": in header byte 1 they are bits 7 and 4 (001, figure 6).
+fn flags_of(h1: u8) -> u16
+    ensures { λ r. ⌜ r ≡ flagsOf h1 ⌝ }
+{
+    (h1 / 128) as u16 + 2 * ((h1 / 16 % 2) as u16)
+}
+
+// "A string is nothing, or one packet and then a string that is shorter by that packet": how many packets stand from `at` on, and k
+// before them. The bytes left fall at each call.
+fn measure(s: &[u8], at: usize, k: usize) -> usize
+    requires { ⌜ (k ≤ at) × (at ≤ length (now s)) ⌝ }
+    ensures { λ r. ⌜ r ≡ countFrom k (shown (drop at (now (s .entry)))) ⌝ }
+{
+    let left = s.len() - at;
+    if left == 0 {
+        return k;
+    }
+    if left < 7 {
+        return NOT_WHOLE;
+    }
+    let size = wide(s[at + 5]) + 7;
+    if left < size {
+        return NOT_WHOLE;
+    }
+    measure(s, at + size, k + 1)
+}
+
+// "P pairs: line .. and flags"; "Packet k belongs to location k".
+fn write_locations(s: &[u8], out: &mut [u16])
+    requires { ⌜ Whole (now s) ⌝ }
+    requires { ⌜ length (now out) ≡ 2 * length (packetsShown (now s)) ⌝ }
+    ensures { λ _. ⌜ now (out .exit) ≡ locations (packetsShown (now (s .entry))) ⌝ }
+{
+    let mut at = 0;
+    let mut i = 0;
+    while at < s.len() {
+        let h1 = s[at + 1];
+        let line = line_of(s[at], h1);
+        let flags = flags_of(h1);
+        out[i] = line;
+        out[i + 1] = flags;
+        i += 2;
+        at += wide(s[at + 5]) + 7;
+    }
+}
+
+// The words of bytes: a DANC packet has only "the low eight bits of each word".
+fn write_coded(s: &[u8], out: &mut [u16])
+    requires { ⌜ length (now out) ≡ length (now s) ⌝ }
+    ensures { λ _. ⌜ now (out .exit) ≡ map word (now (s .entry)) ⌝ }
+{
+    let mut i = 0;
+    while i < s.len() {
+        out[i] = packet::word_of(s[i]);
+        i += 1;
+    }
+}
+
+// "000h, 3FFh, 3FFh; DID; SDID or DBN; DC; DC user words; CS". CS is summed over the words just written: of the bytes' sum "the low
+// eight bits agree, bit 8 need not".
+fn write_words(s: &[u8], out: &mut [u16])
+    requires { ⌜ length (now s) ≡ sizeIn (now s) ⌝ }
+    requires { ⌜ length (now out) ≡ length (now s) ⌝ }
+    ensures { λ _. ⌜ now (out .exit) ≡ words (packetOfBytes (now (s .entry))) ⌝ }
+{
+    out[0] = 0x000;
+    out[1] = 0x3FF;
+    out[2] = 0x3FF;
+    let end = s.len() - 1;
+    write_coded(&s[3..end], &mut out[3..end]);
+    out[end] = packet::check_of(&out[3..end]);
+}
+
+// "W words: packets back to back". "A DANC packet has as many bytes as its VANC packet has words", so both stand at one place.
+fn write_packets(s: &[u8], out: &mut [u16])
+    requires { ⌜ Whole (now s) ⌝ }
+    requires { ⌜ length (now out) ≡ length (now s) ⌝ }
+    ensures { λ _. ⌜ now (out .exit) ≡ allWords (packetsShown (now (s .entry))) ⌝ }
+{
+    let mut at = 0;
+    while at < s.len() {
+        let end = at + (wide(s[at + 5]) + 7);
+        write_words(&s[at..end], &mut out[at..end]);
+        at = end;
+    }
+}
+
+// "A: the count 1, then the system." "B: the count P of locations, then P pairs". "C: the count W of words, then W words".
+fn write_sections(system: u16, packets: usize, s: &[u8], out: &mut [u16])
+    requires { ⌜ Measured packets (now s) (now out) ⌝ }
+    ensures { λ _. ⌜ now (out .exit) ≡ sheetOf system (packetsShown (now (s .entry))) ⌝ }
+{
+    out[0] = 1;
+    out[1] = system;
+    out[2] = packets as u16;
+    let mid = 3 + 2 * packets;
+    write_locations(s, &mut out[3..mid]);
+    out[mid] = s.len() as u16;
+    write_packets(s, &mut out[mid + 1..]);
+}
+
+// The sheet of a string's packets at the start of a buffer; its numbers are counted. 0, and nothing written, where the bytes are not
+// whole packets, where W would be no 16-bit number, or where the sheet is longer than the buffer: "A sheet has 4 + 2P + W numbers".
+pub fn write_sheet(system: u16, string: &[u8], sheet: &mut [u16]) -> usize
+    ensures { λ r. ⌜ r ≡ wrote system (now (string .entry)) (length (now (sheet .entry))) ⌝ }
+    ensures { λ r. ⌜ now (sheet .exit) ≡ sheetAfter system (now (string .entry)) (now (sheet .entry)) ⌝ }
+{
+    if string.len() > 65535 {
+        return 0;
+    }
+    let packets = measure(string, 0, 0);
+    if packets == NOT_WHOLE {
+        return 0;
+    }
+    let n = 4 + 2 * packets + string.len();
+    if sheet.len() < n {
+        return 0;
+    }
+    write_sections(system, packets, string, &mut sheet[..n]);
+    n
+}
