@@ -1,3 +1,8 @@
--- What follows from the definitions of this crate: Laws is for callers, Moves for the code that moves bytes.
+-- What follows from the definitions of this crate.
+--
+--   Laws    for callers: which systems have figures
+--   Moves   bytes moved block by block, row by row
+--   Order   the code's order is the rules' laying order
 pub mod Laws
 pub mod Moves
+pub mod Order

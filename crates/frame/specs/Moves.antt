@@ -1,5 +1,5 @@
 -- The order in which the code moves bytes between an area and a run of user bytes: rows of two sequences, in a row the six blocks,
--- of each block the four channels. That these are the rules' runs in laying order is computed in proofs/Moves.
+-- of each block the four channels. That these are the rules' runs in laying order is computed in proofs/Order.
 --
 -- In order: moves; four channels; a row; rows.
 -- Assumes nothing.

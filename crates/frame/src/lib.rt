@@ -1,8 +1,10 @@
-// The frame: the three systems with their figures, and where the blocks of an area start.
+// The frame: the three systems with their figures, where the blocks of an area start, and user bytes out of an area and into it.
+// Moving the bytes is in blocks.rt.
 ghost use mathlib.Core.Path.{_≡_};
 ghost use Prim.Native.Nat.{_<_};
 ghost use Rattle.rules.specs.Blocks.{blockStart};
 ghost use Rattle.frame.specs.Systems.{figuresOf};
+ghost use Rattle.frame.specs.Bytes.{fitsArea, collected, bytesAfter, areaWith};
 
 mod blocks;
 
@@ -106,16 +108,53 @@ pub fn figures_of(system: u64) -> Figures
     }
 }
 
-// A number of a byte as a place, so that no caller has to show that the cast keeps it.
+// A byte's number as a place, so that no caller has to show that the cast keeps it.
 fn wide(x: u8) -> usize
     ensures { λ r. ⌜ (r ≡ x) × (r < 256) ⌝ }
 {
     x as usize
 }
 
-// 001, figure 2: where a block of an area starts. The numbers are bytes, so that no sum can wrap.
+// Where a block of an area starts (document 01; 001, figure 1: one channel after the other, in it one sequence after the other).
+// The numbers are bytes, so that no sum can wrap.
 pub fn block_start(n: Sequences, channel: Channel, sequence: Sequence, block: u8) -> usize
     ensures { λ r. ⌜ r ≡ blockStart (n .0) (channel .0) (sequence .0) block ⌝ }
 {
     80 * (3 * (wide(n.0) * wide(channel.0) + wide(sequence.0)) + wide(block))
+}
+
+// Reading takes the user bytes as one run: they go to the start of `us` in laying order (001, table 4), and their number comes back.
+// Where the system is not known or the area is of another length that is 0, and `us` stays as it is.
+pub fn collect(system: u64, area: &[u8], us: &mut [u8; 9360]) -> usize
+    ensures { λ r. ⌜ r ≡ collected system (now (area .entry)) ⌝ }
+    ensures { λ _. ⌜ now (us .exit) ≡ bytesAfter system (now (area .entry)) (now (us .entry)) ⌝ }
+{
+    let figures = figures_of(system);
+    let n = figures.sequences;
+    if n == 0 {
+        return 0;
+    }
+    if area.len() != figures.area {
+        return 0;
+    }
+    blocks::rows_out(area, 240 * n, n / 2, us);
+    780 * n
+}
+
+// Laying puts the first bytes of `us` into the blocks in laying order; VS, VSC and all else stay as they are (001, figure 2).
+// Where the system is not known or the area is of another length the answer is false, and the area stays as it is.
+pub fn spread(system: u64, us: &[u8; 9360], area: &mut [u8]) -> bool
+    ensures { λ r. ⌜ r ≡ fitsArea system (now (area .entry)) ⌝ }
+    ensures { λ _. ⌜ now (area .exit) ≡ areaWith system (now (us .entry)) (now (area .entry)) ⌝ }
+{
+    let figures = figures_of(system);
+    let n = figures.sequences;
+    if n == 0 {
+        return false;
+    }
+    if area.len() != figures.area {
+        return false;
+    }
+    blocks::rows_in(us, area, 240 * n, n / 2);
+    true
 }

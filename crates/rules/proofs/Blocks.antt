@@ -12,7 +12,7 @@ use mathlib.Core.List.{List, [], _∷_, _++_, map}
 use native.Mathlib.Omega.{arith}
 use lib.Dec.{eqb, ltb, leb}
 use lib.ListN.{length, getD, take, drop, length-append, length-take, length-drop, take-append-drop, List·getD-append}
-use lib.Seq.{getD-take, getD-drop, getD-append-add, ext-getD, take-at, drop-at, length-take-le}
+use lib.Seq.{getD-take, getD-drop, getD-append-add, ext-getD, take-at, drop-at, length-take-le, take-append-le, drop-append-le}
 use borrow.Author.Tests.{ltb-true, ltb-false, leb-true, leb-false, lt-ltb, le-leb}
 use Rattle.rules.specs.Base.{count, sum, none, one, Bytes}
 use Rattle.rules.specs.Systems.{System, hd1080-60i, hd1080-50i, hd720-60p, known, system}
@@ -182,6 +182,15 @@ gather-scatter m (r ∷ rs) us a w d t l =
     (run-kept m r rs vs c (v .0) (v .1) k lc (q .0) ∙ into-there a (r .start) (r .size) us (omega arith) (omega arith))
     (gather-scatter m rs vs c (v .1) (q .1) e lc)
     ∙ take-append-drop (r .size) us
+
+-- of what is laid only as many bytes count as the runs hold
+pub scatter-front : (rs : List Run) (us more a : List ℕ) → length us ≡ sum (sizes rs) → scatter rs (us ++ more) a ≡ scatter rs us a
+scatter-front [] us more a e = refl
+scatter-front (r ∷ rs) us more a e =
+    let t : take (r .size) (us ++ more) ≡ take (r .size) us = take-append-le (r .size) us more (omega arith) in
+    let d : drop (r .size) (us ++ more) ≡ drop (r .size) us ++ more = drop-append-le (r .size) us more (omega arith) in
+    let l = length-drop (r .size) us in
+    rw (t, d) (scatter-front rs (drop (r .size) us) more (into a (r .start) (r .size) us) (omega arith))
 
 -- ---- no second area
 

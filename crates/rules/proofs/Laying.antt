@@ -1,8 +1,9 @@
 -- Demands 1 and 2: what laying gives back and the area afterwards meet the contract `Lays`.
 --
--- In order: laying a sound list's sheet; number 0 only for such a sheet; success; the contract (`lays`); no second area (`laid-one`).
+-- In order: laying a sound list's sheet; number 0 only for such a sheet; success; no second area (`laid-one`); the contract (`lays`);
+-- laying by the sheet's tests, for code that starts with them.
 -- Assumes nothing.
-use Prim.Native.Nat.{ℕ}
+use Prim.Native.Nat.{ℕ, _≤_}
 use mathlib.Core.Path.{_≡_, refl, sym, ap, _∙_, subst}
 use mathlib.Core.Bool.{Bool, true, false}
 use mathlib.Core.List.{List, [], map}
@@ -10,7 +11,7 @@ use native.Mathlib.Nat.{le-of-eq}
 use native.Mathlib.Omega.{arith}
 use lib.Dec.{eqb}
 use lib.ListN.{length}
-use borrow.Author.Tests.{eqb-true, eq-eqb}
+use borrow.Author.Tests.{eqb-true, eq-eqb, ne-eqb}
 use Rattle.rules.specs.Base.{sum}
 use Rattle.rules.specs.Systems.{System, known, system}
 use Rattle.rules.specs.Packet.{Packet}
@@ -19,13 +20,15 @@ use Rattle.rules.specs.Sheet.{systemIn}
 use Rattle.rules.specs.Blocks.{runs, blockSizes, areaSize, scatter, userBytesIn}
 use Rattle.rules.specs.Packings.{isPacking, laidBytes, fits, packsLaid, packsIn}
 use Rattle.rules.specs.Numbers.{Outcome, listed, refused, unless, andThen}
-use Rattle.rules.specs.Laying.{shaped, listTests, laying, laidOf, areaOf, lay, areaAfter}
-use Rattle.rules.specs.Demands.{Asked, Success, Unlaid, Lays}
+use Rattle.rules.specs.Laying.{shaped, listTests, sheetTests, laying, laidOf, areaOf, lay, areaAfter}
+use Rattle.rules.specs.Lister.{testedOf, tested}
+use Rattle.rules.specs.Demands.{SheetOf, Tests, Asked, Success, Unlaid, Lays}
 use Rattle.rules.specs.declared.Laid.{Laid}
+use Rattle.rules.specs.declared.Tested.{Tested}
 use Rattle.rules.proofs.Basics.{never, written-back}
 use Rattle.rules.proofs.Blocks.{scatter-length, scatter-outside, gather-scatter, scatter-one, Facts, facts-of}
 use Rattle.rules.proofs.Users.{users-length, users-counted, users-ceiling}
-use Rattle.rules.proofs.Sheets.{system-back, shaped-back, list-read, list-laid, unless-refused, list-refused}
+use Rattle.rules.proofs.Sheets.{system-back, shaped-back, list-read, list-laid, unless-from, list-refused, Told, sheet-told}
 
 -- the tests of laying on the sheet of a sound list come down to the room
 laying-asked : (k sys : ℕ) (ps : List Packet) (s area : List ℕ) → Asked k sys ps s area
@@ -80,18 +83,21 @@ laying-only k s area ps e =
     go true p true q true r true t e = from-list p q r (eqb-true (length area) (areaSize y) t) (listTests y s) refl e
 
 -- a refusal's number is not 0
-laying-refused : (k : ℕ) (s area : List ℕ) (n i : ℕ) → laying k s area ≡ refused n i → n ≡ 0 → ⊥
+laying-refused : (k : ℕ) (s area : List ℕ) (n i : ℕ) → laying k s area ≡ refused n i → 1 ≤ n
 unfolding laying
 laying-refused k s area n i e =
-    unless-refused 1 (isPacking k) _ n i
-    (unless-refused 2 (shaped s) _ n i
-    (unless-refused 3 (known (systemIn s)) _ n i
-    (unless-refused 4 (eqb (length area) (areaSize (system (systemIn s)))) _ n i (from-list (listTests (system (systemIn s)) s) refl) (omega arith)) (omega arith)) (omega arith)) (omega arith) e
+    unless-from 1 1 (isPacking k) _ n i
+    (unless-from 1 2 (shaped s) _ n i
+    (unless-from 1 3 (known (systemIn s)) _ n i
+    (unless-from 1 4 (eqb (length area) (areaSize y)) _ n i (from-list (listTests y s) refl) (omega arith)) (omega arith)) (omega arith)) (omega arith) e
   where
-    from-list : (o : Outcome) → listTests (system (systemIn s)) s ≡ o
-        → andThen o (λ (ps : List Packet). unless 12 (fits k (blockSizes (system (systemIn s))) ps) (listed ps)) ≡ refused n i → n ≡ 0 → ⊥
-    from-list (refused m j) q e = list-refused (system (systemIn s)) s n i (q ∙ e)
-    from-list (listed ps) q e = unless-refused 12 (fits k (blockSizes (system (systemIn s))) ps) (listed ps) n i (λ f. never (cc)) (omega arith) e
+    y : System
+    y = system (systemIn s)
+
+    from-list : (o : Outcome) → listTests y s ≡ o
+        → andThen o (λ (ps : List Packet). unless 12 (fits k (blockSizes y) ps) (listed ps)) ≡ refused n i → 1 ≤ n
+    from-list (refused m j) q e = let h = list-refused y s n i (q ∙ e) in omega arith
+    from-list (listed ps) q e = unless-from 1 12 (fits k (blockSizes y) ps) (listed ps) n i (λ f. never (cc)) (omega arith) e
 
 -- a list that fits, laid into the frame's own area
 module _ (k sys : ℕ) (ps : List Packet) (s area : List ℕ) (a : Asked k sys ps s area) (f : fits k (blockSizes (system sys)) ps ≡ true) where
@@ -167,5 +173,75 @@ lays k s area r after er ea =
 
     only : (o : Outcome) → laying k s area ≡ o → r .number ≡ laidOf k y o .number → r .number ≡ 0
         → (sys : ℕ) × (ps : List Packet) × Asked k sys ps s area × (fits k (blockSizes (system sys)) ps ≡ true)
-    only (refused m i) q p n = absurd (laying-refused k s area m i q (sym p ∙ n))
+    only (refused m i) q p n = let h = laying-refused k s area m i q in absurd (omega arith)
     only (listed ps) q p n = let w = laying-only k s area ps q in (systemIn s, ps, w .0, w .1)
+
+-- ---- laying by the sheet's tests, for code that starts with them
+
+module _ (k : ℕ) (s area : List ℕ) where
+  -- the two fields of the contract, from the outcome
+  abbrev pub Lain : Laid → List ℕ → Outcome → Type 0
+  Lain r after o = (r ≡ laidOf k (system (systemIn s)) o) × (after ≡ areaOf k (system (systemIn s)) area o)
+
+  pub lays-outcome : (r : Laid) (after : List ℕ) (o : Outcome) → laying k s area ≡ o → Lain r after o → Lays k s area r after
+  unfolding lay areaAfter
+  lays-outcome r after o e w =
+      lays k s area r after (w .0 ∙ sym (ap (laidOf k (system (systemIn s))) e)) (w .1 ∙ sym (ap (areaOf k (system (systemIn s)) area) e))
+
+  -- 1: the packing
+  pub refuses-packing : isPacking k ≡ false → laying k s area ≡ refused 1 0
+  unfolding laying
+  refuses-packing p = rw p
+
+  module _ (p : isPacking k ≡ true) (t : Tested) (w : Tests s t) where
+    told : Told s (t .number)
+    unfolding tested
+    told = go (sheetTests s) refl (ap (λ (x : Tested). x .number) (w .answer))
+      where
+        go : (o : Outcome) → sheetTests s ≡ o → t .number ≡ testedOf (systemIn s) o .number → Told s (t .number)
+        go (listed ps) e n = subst (Told s) (sym n) (sheet-told s (listed ps) e)
+        go (refused m i) e n = subst (Told s) (sym n) (sheet-told s (refused m i) e)
+
+    -- 2 and 3: the sheet's shape and its system
+    pub refuses-shape : t .number ≡ 2 → laying k s area ≡ refused 2 0
+    unfolding laying
+    refuses-shape n = rw (p, told .two n)
+
+    pub refuses-system : t .number ≡ 3 → laying k s area ≡ refused 3 0
+    unfolding laying
+    refuses-system n = let v = told .three n in rw (p, v .0, v .1)
+
+    module _ (n2 : t .number ≡ 2 → ⊥) (n3 : t .number ≡ 3 → ⊥) where
+      -- what is known past these: the sheet's shape, and its system
+      pub past-system : (shaped s ≡ true) × (known (systemIn s) ≡ true)
+      past-system = told .rest n2 n3
+
+      -- 4: the area
+      pub refuses-area : (length area ≡ areaSize (system (systemIn s)) → ⊥) → laying k s area ≡ refused 4 0
+      unfolding laying
+      refuses-area l = let v = past-system in rw (p, v .0, v .1, ne-eqb (length area) (areaSize (system (systemIn s))) l)
+
+      module _ (l : length area ≡ areaSize (system (systemIn s))) where
+        -- 5 to 11: the list
+        pub refuses-list : (t .number ≡ 0 → ⊥) → laying k s area ≡ refused (t .number) (t .place)
+        unfolding laying tested sheetTests
+        refuses-list n0 =
+            let v = past-system in
+            let a : t ≡ testedOf (systemIn s) (listTests (system (systemIn s)) s) = w .answer ∙ rw (v .0, v .1) in
+            rw (p, v .0, v .1, eq-eqb (length area) (areaSize (system (systemIn s))) l) (go (listTests (system (systemIn s)) s) a)
+          where
+            go : (o : Outcome) → t ≡ testedOf (systemIn s) o
+                → andThen o (λ (ps : List Packet). unless 12 (fits k (blockSizes (system (systemIn s))) ps) (listed ps)) ≡ refused (t .number) (t .place)
+            go (listed ps) e = absurd (n0 (ap (λ (x : Tested). x .number) e))
+            go (refused m i) e = λ j. refused (sym (ap (λ (x : Tested). x .number) e) j) (sym (ap (λ (x : Tested). x .place) e) j)
+
+        -- what a list that passes its tests is, and its figures
+        pub passed-list : t .number ≡ 0
+            → (ps : List Packet) × Asked k (systemIn s) ps s area × (t ≡ testedOf (systemIn s) (listed ps))
+            × (laying k s area ≡ unless 12 (fits k (blockSizes (system (systemIn s))) ps) (listed ps))
+        passed-list n0 =
+            let o = w .only n0 in
+            let y : systemIn s ≡ o .0 = ap systemIn (o .2 .whole) ∙ system-back (o .0) (o .1) in
+            let g : SheetOf (systemIn s) (o .1) s = subst (λ (z : ℕ). SheetOf z (o .1) s) (sym y) (o .2) in
+            let a : Asked k (systemIn s) (o .1) s area = record { packing = p; sheet = g; own = l } in
+            (o .1, a, w .passes (systemIn s) (o .1) g, laying-asked k (systemIn s) (o .1) s area a .0)

@@ -24,14 +24,14 @@ use Rattle.rules.specs.declared.Tested.{Tested}
 use Rattle.rules.proofs.Basics.{never, both, written-back}
 use Rattle.rules.proofs.Strings.{string-room}
 use Rattle.rules.proofs.Packs.{packs-length}
-use Rattle.rules.proofs.Sheets.{system-back, sheet-read, sheet-laid, unless-refused, list-refused}
+use Rattle.rules.proofs.Sheets.{system-back, sheet-read, sheet-laid, unless-from, list-refused}
 
 -- a refusal's number is not 0
-sheet-refused : (s : List ℕ) (n i : ℕ) → sheetTests s ≡ refused n i → n ≡ 0 → ⊥
+sheet-refused : (s : List ℕ) (n i : ℕ) → sheetTests s ≡ refused n i → 1 ≤ n
 unfolding sheetTests
 sheet-refused s n i e =
-    unless-refused 2 (shaped s) _ n i
-    (unless-refused 3 (known (systemIn s)) _ n i (λ q. list-refused (system (systemIn s)) s n i q) (omega arith)) (omega arith) e
+    unless-from 1 2 (shaped s) _ n i
+    (unless-from 1 3 (known (systemIn s)) _ n i (λ q. let h = list-refused (system (systemIn s)) s n i q in omega arith) (omega arith)) (omega arith) e
 
 -- the contract of the lister's tests follows from its first field
 pub tests : (s : List ℕ) (r : Tested) → r ≡ tested s → Tests s r
@@ -47,7 +47,7 @@ tests s r e =
   where
     only : (o : Outcome) → sheetTests s ≡ o → r .number ≡ testedOf (systemIn s) o .number → r .number ≡ 0
         → (sys : ℕ) × (ps : List Packet) × SheetOf sys ps s
-    only (refused m i) q p n = absurd (sheet-refused s m i q (sym p ∙ n))
+    only (refused m i) q p n = let h = sheet-refused s m i q in absurd (omega arith)
     only (listed ps) q p n = (systemIn s, ps, sheet-laid s ps q)
 
 -- the bytes and packs that the first line counts are those that laying would lay

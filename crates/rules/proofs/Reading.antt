@@ -28,7 +28,7 @@ use Rattle.rules.proofs.Basics.{never, joined-append}
 use Rattle.rules.proofs.Blocks.{gather-length, gather-bytes, Facts, facts-of}
 use Rattle.rules.proofs.Strings.{string-read}
 use Rattle.rules.proofs.Users.{fill-ends, users-read, users-laid, users-unique, users-refused, written-gives}
-use Rattle.rules.proofs.Sheets.{system-back, unless-refused}
+use Rattle.rules.proofs.Sheets.{system-back, unless-from}
 
 -- an area of a known system's size
 module _ (sys : ℕ) (k : known sys ≡ true) (area : List ℕ) (l : length area ≡ areaSize (system sys)) where
@@ -76,17 +76,23 @@ module _ (sys : ℕ) (k : known sys ≡ true) (area : List ℕ) (l : length area
           subst (λ (rs : List Packet). (j : ℕ) × Comes sys area j rs × (length (sheetOf sys rs) ≤ room)) (w .0) (v .0, v .1, w .1)
 
 -- a refusal's number is not 0
-reading-refused : (sys : ℕ) (area : List ℕ) (room n i : ℕ) → reading sys area room ≡ refused n i → n ≡ 0 → ⊥
+reading-refused : (sys : ℕ) (area : List ℕ) (room n i : ℕ) → reading sys area room ≡ refused n i → 1 ≤ n
 unfolding reading
 reading-refused sys area room n i e =
-    unless-refused 3 (known sys) _ n i
-    (unless-refused 4 (eqb (length area) (areaSize (system sys))) _ n i (from-users (packetsOfUserBytes (system sys) (blockSizes (system sys)) (userBytesIn (system sys) area)) refl) (omega arith))
+    unless-from 1 3 (known sys) _ n i
+    (unless-from 1 4 (eqb (length area) (areaSize (system sys))) _ n i (from-users (packetsOfUserBytes y (blockSizes y) ub) refl) (omega arith))
     (omega arith) e
   where
-    from-users : (o : Outcome) → packetsOfUserBytes (system sys) (blockSizes (system sys)) (userBytesIn (system sys) area) ≡ o
-        → andThen o (λ (ps : List Packet). unless 17 (leb (length (sheetOf sys ps)) room) (listed ps)) ≡ refused n i → n ≡ 0 → ⊥
-    from-users (refused m j) q e = users-refused (system sys) (blockSizes (system sys)) (userBytesIn (system sys) area) n i (q ∙ e)
-    from-users (listed ps) q e = unless-refused 17 (leb (length (sheetOf sys ps)) room) (listed ps) n i (λ f. never (cc)) (omega arith) e
+    y : System
+    y = system sys
+
+    ub : List ℕ
+    ub = userBytesIn y area
+
+    from-users : (o : Outcome) → packetsOfUserBytes y (blockSizes y) ub ≡ o
+        → andThen o (λ (ps : List Packet). unless 17 (leb (length (sheetOf sys ps)) room) (listed ps)) ≡ refused n i → 1 ≤ n
+    from-users (refused m j) q e = users-refused y (blockSizes y) ub n i (q ∙ e)
+    from-users (listed ps) q e = unless-from 1 17 (leb (length (sheetOf sys ps)) room) (listed ps) n i (λ f. never (cc)) (omega arith) e
 
 -- ---- the contract
 
@@ -127,7 +133,7 @@ reads sys area sheet r after b er ea =
     only : known sys ≡ true → length area ≡ areaSize (system sys) → (o : Outcome) → reading sys area (length sheet) ≡ o
         → r .number ≡ readBackOf sys found o .number → r .number ≡ 0
         → (k : ℕ) × (ps : List Packet) × Comes sys area k ps × (length (sheetOf sys ps) ≤ length sheet)
-    only k l (refused m i) q p n = absurd (reading-refused sys area (length sheet) m i q (sym p ∙ n))
+    only k l (refused m i) q p n = let h = reading-refused sys area (length sheet) m i q in absurd (omega arith)
     only k l (listed ps) q p n =
         let w = accepted-only sys k area l b (length sheet) ps q in
         (w .0, ps, w .1, w .2)

@@ -113,17 +113,23 @@ module _ {A : Type 0} (row : Row A) where
   also-refused p (listed ps) n k e = never (cc)
   also-refused p (refused m j) n k e = e
 
-  end-number : (i n k : ℕ) (d : Bool) → cond d (listed []) (refused 5 i) ≡ refused n k → n ≡ 0 → ⊥
+  end-number : (i n k : ℕ) (d : Bool) → cond d (listed []) (refused 5 i) ≡ refused n k → 1 ≤ n
   end-number i n k true e = never (cc)
   end-number i n k false e = let z : 5 ≡ n = cc in omega arith
 
-  turn-number : (s : List A) (i n k : ℕ) (o : Outcome) → (o ≡ refused n k → n ≡ 0 → ⊥) → (d z : Bool) → eqb (row .fault s) 0 ≡ z
-      → cond d (listed []) (cond z (also (row .packet s) o) (refused (row .fault s) i)) ≡ refused n k → n ≡ 0 → ⊥
+  turn-number : (s : List A) (i n k : ℕ) (o : Outcome) → (o ≡ refused n k → 1 ≤ n) → (d z : Bool) → eqb (row .fault s) 0 ≡ z
+      → cond d (listed []) (cond z (also (row .packet s) o) (refused (row .fault s) i)) ≡ refused n k → 1 ≤ n
   turn-number s i n k o ih true z q e = never (cc)
   turn-number s i n k o ih false true q e = ih (also-refused (row .packet s) o n k e)
-  turn-number s i n k o ih false false q e = λ h. eqb-false (row .fault s) 0 q (let w : row .fault s ≡ n = cc in w ∙ h)
+  turn-number s i n k o ih false false q e =
+      let h = eqb-false (row .fault s) 0 q in
+      let w : row .fault s ≡ n = cc in
+      positive n (λ z. h (w ∙ z))
+    where
+      positive : (m : ℕ) → (m ≡ 0 → ⊥) → 1 ≤ m
+      positive m h = omega arith
 
-  pub row-refused : (left i : ℕ) (s : List A) (n k : ℕ) → packetsIn row left i s ≡ refused n k → n ≡ 0 → ⊥
+  pub row-refused : (left i : ℕ) (s : List A) (n k : ℕ) → packetsIn row left i s ≡ refused n k → 1 ≤ n
   row-refused zero i s n k e = end-number i n k (row .ends s) e
   row-refused (suc left) i s n k e =
       turn-number s i n k (packetsIn row left (suc i) (row .rest s)) (λ q. row-refused left (suc i) (row .rest s) n k q)

@@ -24,6 +24,11 @@ use Rattle.rules.specs.Demands.{SheetOf}
 use Rattle.rules.proofs.Basics.{never, both, append-below}
 use Rattle.rules.proofs.Words.{bare, bares, words-read, WordsOf, words-laid, words-room, words-refused}
 
+-- the number of an outcome, 0 for a list
+abbrev pub numberOf : Outcome → ℕ
+numberOf (listed ps) = 0
+numberOf (refused n i) = n
+
 -- ---- locations
 
 locations-length : (ps : List Packet) → length (locations ps) ≡ 2 * length ps
@@ -332,28 +337,58 @@ sheet-room sys y ps hs hm g few = (λ h. there (h (3 + 2 * length ps)), back)
 
 -- ---- refusals
 
--- a refusal's number is not 0
-stand-refused : (y : System) (i : ℕ) (ls : List ℕ) (o : Outcome) (n k : ℕ) → (o ≡ refused n k → n ≡ 0 → ⊥) → locationsStand y i ls o ≡ refused n k → n ≡ 0 → ⊥
-stand-refused y i [] o n k h e = h e
-stand-refused y i (l ∷ []) o n k h e = h e
-stand-refused y i (l ∷ f ∷ ls) o n k h e = go (stands y l && ltb f 4) (stand-refused y (suc i) ls o n k h) e
+-- a refusal's number is at least that of the first test
+pub unless-from : (b m : ℕ) (t : Bool) (o : Outcome) (n k : ℕ) → (o ≡ refused n k → b ≤ n) → b ≤ m → unless m t o ≡ refused n k → b ≤ n
+unless-from b m true o n k h l e = h e
+unless-from b m false o n k h l e = let z : m ≡ n = cc in omega arith
+
+stand-from : (b : ℕ) (y : System) (i : ℕ) (ls : List ℕ) (o : Outcome) (n k : ℕ) → (o ≡ refused n k → b ≤ n) → b ≤ 6
+    → locationsStand y i ls o ≡ refused n k → b ≤ n
+stand-from b y i [] o n k h l e = h e
+stand-from b y i (x ∷ []) o n k h l e = h e
+stand-from b y i (x ∷ f ∷ ls) o n k h l e = go (stands y x && ltb f 4) (stand-from b y (suc i) ls o n k h l) e
   where
-    go : (t : Bool) → (locationsStand y (suc i) ls o ≡ refused n k → n ≡ 0 → ⊥) → cond t (locationsStand y (suc i) ls o) (refused 6 i) ≡ refused n k → n ≡ 0 → ⊥
+    go : (t : Bool) → (locationsStand y (suc i) ls o ≡ refused n k → b ≤ n) → cond t (locationsStand y (suc i) ls o) (refused 6 i) ≡ refused n k → b ≤ n
     go true ih e = ih e
     go false ih e = let z : 6 ≡ n = cc in omega arith
 
-pub unless-refused : (m : ℕ) (t : Bool) (o : Outcome) (n k : ℕ) → (o ≡ refused n k → n ≡ 0 → ⊥) → 0 < m → unless m t o ≡ refused n k → n ≡ 0 → ⊥
-unless-refused m true o n k h l e = h e
-unless-refused m false o n k h l e = let z : m ≡ n = cc in omega arith
-
-pub list-refused : (y : System) (s : List ℕ) (n k : ℕ) → listTests y s ≡ refused n k → n ≡ 0 → ⊥
+-- the tests of the list refuse with 5 to 11
+pub list-refused : (y : System) (s : List ℕ) (n k : ℕ) → listTests y s ≡ refused n k → 5 ≤ n
 unfolding listTests
 list-refused y s n k e =
-    unless-refused 5 (leb (countIn s) limit) _ n k
-    (stand-refused y 0 (locationsIn s) _ n k (words-of (packetsOfWords (wordsIn s)) refl))
+    unless-from 5 5 (leb (countIn s) limit) _ n k
+    (stand-from 5 y 0 (locationsIn s) _ n k (words-of (packetsOfWords (wordsIn s)) refl) (omega arith))
     (omega arith) e
   where
     words-of : (o : Outcome) → packetsOfWords (wordsIn s) ≡ o
-        → andThen o (λ (ps : List Packet). unless 11 (eqb (length ps) (countIn s)) (listed (located (locationsIn s) ps))) ≡ refused n k → n ≡ 0 → ⊥
+        → andThen o (λ (ps : List Packet). unless 11 (eqb (length ps) (countIn s)) (listed (located (locationsIn s) ps))) ≡ refused n k → 5 ≤ n
     words-of (refused m i) q e = let w = words-refused (wordsIn s) m i q in let z : m ≡ n = cc in omega arith
-    words-of (listed ps) q e = unless-refused 11 (eqb (length ps) (countIn s)) _ n k (λ f. never (cc)) (omega arith) e
+    words-of (listed ps) q e = unless-from 5 11 (eqb (length ps) (countIn s)) (listed (located (locationsIn s) ps)) n k (λ f. never (cc)) (omega arith) e
+
+-- what the number of the sheet's tests says: 2 for its shape, 3 for its system, and else the tests of the list
+pub record Told (s : List ℕ) (n : ℕ) : Type 0 where
+  pub two : n ≡ 2 → shaped s ≡ false
+  pub three : n ≡ 3 → (shaped s ≡ true) × (known (systemIn s) ≡ false)
+  pub rest : (n ≡ 2 → ⊥) → (n ≡ 3 → ⊥) → (shaped s ≡ true) × (known (systemIn s) ≡ true)
+
+pub sheet-told : (s : List ℕ) (o : Outcome) → sheetTests s ≡ o → Told s (numberOf o)
+unfolding sheetTests
+sheet-told s o e = go (shaped s) refl (known (systemIn s)) refl e
+  where
+    later : listTests (system (systemIn s)) s ≡ o → (numberOf o ≡ 2 → ⊥) × (numberOf o ≡ 3 → ⊥)
+    later q = numbers o q
+      where
+        numbers : (o : Outcome) → listTests (system (systemIn s)) s ≡ o → (numberOf o ≡ 2 → ⊥) × (numberOf o ≡ 3 → ⊥)
+        numbers (listed ps) q = (λ n. omega arith, λ n. omega arith)
+        numbers (refused m i) q = let h = list-refused (system (systemIn s)) s m i q in (λ n. omega arith, λ n. omega arith)
+
+    go : (a : Bool) → shaped s ≡ a → (b : Bool) → known (systemIn s) ≡ b → unless 2 a (unless 3 b (listTests (system (systemIn s)) s)) ≡ o → Told s (numberOf o)
+    go false p b q e =
+        let n : numberOf o ≡ 2 = ap numberOf (sym e) in
+        record { two = λ m. p; three = λ m. absurd (omega arith); rest = λ m l. absurd (m n) }
+    go true p false q e =
+        let n : numberOf o ≡ 3 = ap numberOf (sym e) in
+        record { two = λ m. absurd (omega arith); three = λ m. (p, q); rest = λ m l. absurd (l n) }
+    go true p true q e =
+        let w = later e in
+        record { two = λ m. absurd (w .0 m); three = λ m. absurd (w .1 m); rest = λ m l. (p, q) }

@@ -54,14 +54,14 @@ few-packets xs ps n e h = let l = length-map xs (λ (x : Item). x .packet) in le
 -- ---- refusals
 
 module _ (y : System) (sizes ub : List ℕ) (n i : ℕ) where
-  refused-opened : (o : Opened) → packetsOfOpened y o ≡ refused n i → n ≡ 0 → ⊥
+  refused-opened : (o : Opened) → packetsOfOpened y o ≡ refused n i → 1 ≤ n
   refused-opened (opened s room) e = row-refused (stringRow y room) limit 0 s n i e
   refused-opened shut e = let z : 13 ≡ n = cc in omega arith
 
   refused-cases : (a b c d f : Bool)
       → cond a (unless 13 b (listed []))
       (cond c (unless 13 d (packetsIn (packRow y) limit 0 (fives ub))) (cond f (packetsOfOpened y (openLong sizes ub)) (refused 13 0))) ≡ refused n i
-      → n ≡ 0 → ⊥
+      → 1 ≤ n
   refused-cases true true c d f e = never (cc)
   refused-cases true false c d f e = let z : 13 ≡ n = cc in omega arith
   refused-cases false b true true f e = row-refused (packRow y) limit 0 (fives ub) n i e
@@ -70,7 +70,7 @@ module _ (y : System) (sizes ub : List ℕ) (n i : ℕ) where
   refused-cases false b false d false e = let z : 13 ≡ n = cc in omega arith
 
   -- a refusal's number is not 0
-  pub users-refused : packetsOfUserBytes y sizes ub ≡ refused n i → n ≡ 0 → ⊥
+  pub users-refused : packetsOfUserBytes y sizes ub ≡ refused n i → 1 ≤ n
   unfolding packetsOfUserBytes
   users-refused e =
       refused-cases (eqb (firstByte ub) 0xFF) (allIs 0xFF ub) (eqb (firstByte ub) 0xE1) (inOrder false (fives ub)) (eqb (firstByte ub) 0xE3) e

@@ -7,7 +7,7 @@ ghost use Prim.Native.Nat.{_*_, _≤_, _<_};
 ghost use lib.ListN.{length, drop};
 ghost use Rattle.rules.specs.Packet.{word, words};
 ghost use Rattle.rules.specs.Sheet.{locations, allWords, sheetOf};
-ghost use Rattle.rules.specs.Reading.{lineOf, flagsOf, packetOfBytes};
+ghost use Rattle.rules.specs.Reading.{lineOf, packetOfBytes};
 ghost use Rattle.sheet.specs.Write.{sizeIn, shown, wrote, sheetAfter, packetsShown, Whole, Measured, countFrom};
 
 // What `measure` answers where the bytes are not whole packets: no count of packets in 65,535 bytes.
@@ -19,21 +19,11 @@ fn wide(b: u8) -> usize
     b as usize
 }
 
-// "a reader disregards line bits when LE is 0"; bits 6 to 0 stand in header byte 0, bits 10 to 7 in header byte 1 (001, figure 6).
+// A sheet has a line's number alone.
 fn line_of(h0: u8, h1: u8) -> u16
     ensures { λ r. ⌜ r ≡ lineOf h0 h1 ⌝ }
 {
-    if h0 < 128 {
-        return 0;
-    }
-    (h0 % 128) as u16 + (h1 % 16) as u16 * 128
-}
-
-// "bit 0 is FI, bit 1 is YCF": in header byte 1 they are bits 7 and 4 (001, figure 6).
-fn flags_of(h1: u8) -> u16
-    ensures { λ r. ⌜ r ≡ flagsOf h1 ⌝ }
-{
-    (h1 / 128) as u16 + 2 * ((h1 / 16 % 2) as u16)
+    danc::line_of(h0, h1).0
 }
 
 // "A string is nothing, or one packet and then a string that is shorter by that packet": how many packets stand from `at` on, and k
@@ -67,7 +57,7 @@ fn write_locations(s: &[u8], out: &mut [u16])
     while at < s.len() {
         let h1 = s[at + 1];
         let line = line_of(s[at], h1);
-        let flags = flags_of(h1);
+        let flags = danc::flags_of(h1);
         out[i] = line;
         out[i + 1] = flags;
         i += 2;

@@ -1,7 +1,6 @@
 -- `frame::block_start` meets its contract. The one product of two variables has its bound from a law; the rest is linear.
 -- Assumes nothing.
 use Prim.Native.Nat.{ℕ, _≤_, _<_, _*_}
-use mathlib.Core.Path.{refl}
 use native.Mathlib.Nat.{mul-le-mul}
 use native.Mathlib.Omega.{arith}
 use borrow.Author.Needs.{needs}

@@ -4,7 +4,7 @@ use Prim.Native.Nat.{_-_, _≤_}
 use mathlib.Core.Path.{_≡_, refl}
 use native.Mathlib.Omega.{arith}
 use borrow.Author.Needs.{needs}
-use lib.ListN.{length, replicate}
+use lib.ListN.{replicate}
 use Rattle.frame.proofs.Moves.{copied, copy-turn, copy-got}
 use Rattle.frame.proofs.blocks.get75.Statement.{statement}
 use Rattle.frame.proofs.blocks.get75.Tie as tie
@@ -33,7 +33,8 @@ loop-less c = search needs
 loop-again : tie.Need-loop-again Inv-loop μ-loop
 loop-again c =
     let l = c .before .before .loop in
-    (omega arith, copy-turn (l .i) (c .before .before .before .args .src .now) (replicate 75 0) (l .a) (omega arith) (omega arith) (l .inv .1))
+    let s = c .before .before .before .args .src .now in
+    (omega arith, copy-turn (l .i) s (replicate 75 0) (l .a) (omega arith) (omega arith) (l .inv .1))
 
 returns : tie.Need-returns Inv-loop μ-loop
 returns c =

@@ -1,35 +1,16 @@
--- `write::line_of` meets its contract: LE is 1 exactly where header byte 0 is at least 128. Assumes nothing.
-use native.Mathlib.Omega.{arith}
+-- `write::line_of` meets its contract: it is the number of the line that the header bytes show.
+-- Assumes nothing.
+use mathlib.Core.Path.{ap}
 use borrow.Author.Needs.{needs}
-use borrow.Author.Tests.{lt-ltb, le-ltb}
+use Rattle.frame.specs.declared.Line.{Line}
 use Rattle.sheet.proofs.write.line_of.Statement.{statement}
 use Rattle.sheet.proofs.write.line_of.Tie as tie
 
+line-of-requires : tie.Need-line-of-requires
+line-of-requires c κs = search needs
+
 returns : tie.Need-returns
-returns c = rw (lt-ltb (c .before .args .h0) 128 (omega arith))
-
-cast-result : tie.Need-cast-result
-cast-result c = search needs
-
-cast-result-2 : tie.Need-cast-result-2
-cast-result-2 c = search needs
-
-mul-result : tie.Need-mul-result
-mul-result c = search needs
-
-add-result : tie.Need-add-result
-add-result c = search needs
-
-returns-2 : tie.Need-returns-2
-returns-2 c = rw (le-ltb (c .before .args .h0) 128 (omega arith))
+returns c = ap (λ (l : Line). l .0) (c .line-of .ensures)
 
 pub line-of-spec : {M : Type 1} → statement M
-line-of-spec =
-    tie.close
-    (tie.spec
-    returns
-    cast-result
-    cast-result-2
-    mul-result
-    add-result
-    returns-2)
+line-of-spec = tie.close (tie.spec line-of-requires returns)

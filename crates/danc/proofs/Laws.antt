@@ -1,0 +1,193 @@
+-- What the rules say of a packet's bytes, one path of the code at a time.
+--
+-- In order: the header as it is written; the sum of bytes; a packet's faults; a step of the walker.
+-- Assumes nothing.
+use Prim.Native.Nat.{ℕ, suc, _+_, _-_, _*_, _/_, _%_, _≤_, _<_}
+use mathlib.Core.Path.{_≡_, refl, sym, ap, ap₂, _∙_}
+use mathlib.Core.Bool.{Bool, true, false, cond, not, _||_}
+use mathlib.Core.List.{List, [], _∷_, map}
+use native.Mathlib.Nat.{le-of-eq}
+use native.Mathlib.Omega.{arith}
+use lib.Dec.{eqb, ltb, leb}
+use lib.ListN.{length, getD, take, drop, length-drop}
+use lib.Seq.{length-take-le, getD-drop, take-all}
+use borrow.Author.Tests.{ltb-false, leb-true, leb-false, eqb-true, lt-ltb, le-ltb, eq-eqb, ne-eqb, le-leb, lt-leb}
+use Rattle.rules.specs.Base.{sum}
+use Rattle.rules.specs.Systems.{System, known, system, stands}
+use Rattle.rules.specs.Packet.{Packet, parity, word, sum9, check, coded, checkOf}
+use Rattle.rules.specs.Danc.{written, header}
+use Rattle.rules.specs.Reading.{lineIn, lineOf, packetOfBytes, lineFault, bytesFault, stringFault}
+use Rattle.rules.specs.Walker.{step, walk}
+use Rattle.frame.specs.Systems.{figuresOf}
+use Rattle.frame.specs.declared.Figures.{Figures}
+use Rattle.frame.proofs.Laws.{unknown-figures, known-figures}
+
+-- ---- the header as it is written
+
+first : (t : Bool) (line : ℕ) → cond t 0 1 * 128 + cond t 0 line % 128 ≡ cond t 0 (128 + line % 128)
+first true line = refl
+first false line = refl
+
+second : (t : Bool) (line flags : ℕ) → eqb line 0 ≡ t → line ≤ 2047 → flags < 4
+    → flags % 2 * 128 + 3 * 32 + flags / 2 * 16 + cond t 0 line / 128 ≡ flags % 2 * 128 + 96 + flags / 2 % 2 * 16 + line / 128 % 16
+second true line flags e h k = let z : line ≡ 0 = eqb-true line 0 e in omega arith
+second false line flags e h k = omega arith
+
+-- the bytes that `head0` and `head1` give, and FFh, are the header of a packet on a line that eleven bits hold
+pub header-written : (p : Packet) → p .line ≤ 2047 → p .flags < 4
+    → header (written p)
+    ≡ cond (eqb (p .line) 0) 0 (128 + p .line % 128) ∷ (p .flags % 2 * 128 + 96 + p .flags / 2 % 2 * 16 + p .line / 128 % 16) ∷ 0xFF ∷ []
+unfolding header
+header-written p h k =
+    ap₂ (λ (a b : ℕ). a ∷ b ∷ 0xFF ∷ []) (first (eqb (p .line) 0) (p .line)) (second (eqb (p .line) 0) (p .line) (p .flags) refl h k)
+
+-- ---- the sum of bytes
+
+low-of : (b p : ℕ) → (b + 256 * p + 512 * (1 - p)) % 512 % 256 ≡ b % 256
+low-of b p = omega arith
+
+add-low : (a b x y : ℕ) → a % 256 ≡ b % 256 → x % 256 ≡ y % 256 → (a + x) % 256 ≡ (b + y) % 256
+add-low a b x y e f = omega arith
+
+low-sum : (bs : List ℕ) → sum9 (map word bs) % 256 ≡ sum bs % 256
+unfolding word
+low-sum [] = refl
+low-sum (b ∷ bs) = add-low (word b % 512) b (sum9 (map word bs)) (sum bs) (low-of b (parity b)) (low-sum bs)
+
+-- the low byte of CS is that of the sum of the bytes
+pub check-sum : (bs : List ℕ) → check (map word bs) % 256 ≡ sum bs % 256
+unfolding check
+check-sum bs = low-check (sum9 (map word bs)) ∙ low-sum bs
+  where
+    low-check : (n : ℕ) → (n % 512 + 512 * (1 - n % 512 / 256)) % 256 ≡ n % 256
+    low-check n = omega arith
+
+-- ---- a packet's faults
+
+-- the tests of a packet look at no figure of a system but its last line
+abbrev pub lastOnly : ℕ → System
+lastOnly last = record { sequences = 0; last = last }
+
+-- the tests of a packet's line, from what the code holds
+module _ (y : System) (last : ℕ) (e : y .last ≡ last) (h0 h1 : ℕ) where
+  pub no-line : h0 < 128 → false ≡ lineFault y h0 h1
+  no-line l = rw (lt-ltb h0 128 l)
+
+  pub line-none : 128 ≤ h0 → lineOf h0 h1 ≡ 0 → true ≡ lineFault y h0 h1
+  line-none l z = rw (le-ltb h0 128 l, eq-eqb (lineIn h0 h1) 0 (rw (le-ltb h0 128 l) at z))
+
+  pub line-past : 128 ≤ h0 → (lineOf h0 h1 ≡ 0 → ⊥) → ltb last (lineOf h0 h1) ≡ lineFault y h0 h1
+  unfolding stands
+  line-past l n = rw (le-ltb h0 128 l, ne-eqb (lineIn h0 h1) 0 (rw (le-ltb h0 128 l) at n), e) (past (lineIn h0 h1))
+    where
+      go : (a : ℕ) (t : Bool) → leb a last ≡ t → ltb last a ≡ not t
+      go a true f = le-ltb last a (leb-true a last f)
+      go a false f = lt-ltb last a (leb-false a last f)
+
+      past : (a : ℕ) → ltb last a ≡ not (leb a last)
+      past a = go a (leb a last) refl
+
+-- the bytes from DID to the last user byte have the sum that CS is of
+part-sum : (s : List ℕ) → getD s 5 0 + 7 ≤ length s → checkOf (packetOfBytes s) % 256 ≡ sum (take (getD s 5 0 + 6 - 3) (drop 3 s)) % 256
+unfolding checkOf coded
+part-sum [] h = absurd (omega arith)
+part-sum (a ∷ []) h = absurd (omega arith)
+part-sum (a ∷ b ∷ []) h = absurd (omega arith)
+part-sum (a ∷ b ∷ c ∷ []) h = absurd (omega arith)
+part-sum (a ∷ b ∷ c ∷ d ∷ []) h = absurd (omega arith)
+part-sum (a ∷ b ∷ c ∷ d ∷ e ∷ []) h = absurd (omega arith)
+part-sum (a ∷ b ∷ c ∷ d ∷ e ∷ n ∷ t) h =
+    let k : n + 6 - 3 ≡ suc (suc (suc n)) = omega arith in
+    let l : length (take n t) ≡ n = length-take-le n t (omega arith) in
+    rw (k, l) (check-sum (d ∷ e ∷ n ∷ take n t))
+
+-- the tests of a packet, from what the code holds: DC, the byte where CS is, the sum
+module _ (y : System) (s : List ℕ) (fit : getD s 5 0 + 7 ≤ length s) (dc total : ℕ) (d : dc ≡ getD s 5 0)
+    (e : total ≡ sum (take (dc + 6 - 3) (drop 3 s)) % 256) where
+  same-check : eqb (getD s (getD s 5 0 + 6) 0) (checkOf (packetOfBytes s) % 256) ≡ eqb (getD s (dc + 6) 0) total
+  same-check = rw (part-sum s fit, ← d, e)
+
+  pub check-wrong : (getD s (dc + 6) 0 ≡ total → ⊥) → 15 ≡ bytesFault y s
+  unfolding bytesFault
+  check-wrong h = rw (same-check, ne-eqb (getD s (dc + 6) 0) total h)
+
+  pub check-right : getD s (dc + 6) 0 ≡ total → (t : Bool) → t ≡ lineFault y (getD s 0 0) (getD s 1 0) → cond t 16 0 ≡ bytesFault y s
+  unfolding bytesFault
+  check-right h t f = rw (same-check, eq-eqb (getD s (dc + 6) 0) total h, ← f)
+
+-- "fewer than 7 or fewer than DC + 7 bytes remain"
+pub too-few : (y : System) (s : List ℕ) → length s < 7 → 14 ≡ stringFault y s
+unfolding stringFault
+too-few y s h = rw (lt-ltb (length s) 7 h)
+
+pub too-short : (y : System) (s : List ℕ) → 7 ≤ length s → length s < getD s 5 0 + 7 → 14 ≡ stringFault y s
+unfolding stringFault
+too-short y s k h = rw (le-ltb (length s) 7 k, lt-ltb (length s) (getD s 5 0 + 7) h)
+
+-- of bytes that are all there, the faults of a string are those of the bytes
+pub fault-bytes : (y : System) (s : List ℕ) → getD s 5 0 + 7 ≤ length s → stringFault y s ≡ bytesFault y s
+unfolding stringFault
+fault-bytes y s h = rw (le-ltb (length s) 7 (omega arith), le-ltb (length s) (getD s 5 0 + 7) h)
+
+-- a packet without a fault is there
+pub fault-room : (y : System) (s : List ℕ) → stringFault y s ≡ 0 → getD s 5 0 + 7 ≤ length s
+unfolding stringFault
+fault-room y s z = go (ltb (length s) 7) (ltb (length s) (getD s 5 0 + 7)) refl z
+  where
+    go : (a b : Bool) → ltb (length s) (getD s 5 0 + 7) ≡ b → cond (a || b) 14 (bytesFault y s) ≡ 0 → getD s 5 0 + 7 ≤ length s
+    go true b e z = absurd (omega arith)
+    go false true e z = absurd (omega arith)
+    go false false e z = ltb-false (length s) (getD s 5 0 + 7) e
+
+-- the rest of a slice
+pub rest-part : (n : ℕ) (s : List ℕ) → take (length s - n) (drop n s) ≡ drop n s
+rest-part n s = take-all (length s - n) (drop n s) (le-of-eq (length-drop n s))
+
+-- the same of a part of a slice
+pub part-room : (y : System) (s : List ℕ) (at n : ℕ) → n ≡ stringFault y (take (length s - at) (drop at s)) → n ≡ 0
+    → at + (getD s (at + 5) 0 + 7) ≤ length s
+part-room y s at n w z =
+    let k = fault-room y (drop at s) (sym (rw (rest-part at s) at w) ∙ z) in
+    let d = length-drop at s in
+    let g = getD-drop at s 5 0 in
+    omega arith
+
+-- ---- a step of the walker
+
+-- from what the code holds: the system's figures
+module _ (sys : ℕ) (f : Figures) (e : f ≡ figuresOf sys) where
+  sequences-of : f .sequences ≡ system sys .sequences
+  unfolding figuresOf
+  sequences-of = ap (λ (g : Figures). g .sequences) e
+
+  pub last-of : system sys .last ≡ f .«last_line» .0
+  unfolding figuresOf
+  last-of = sym (ap (λ (g : Figures). g .«last_line» .0) e)
+
+  is-known : (f .sequences ≡ 0 → ⊥) → known sys ≡ true
+  is-known h = known-figures sys (λ z. h (sequences-of ∙ z))
+
+  module _ (s : List ℕ) (at : ℕ) where
+    pub step-unknown : f .sequences ≡ 0 → step 3 0 0 ≡ walk sys s at
+    unfolding walk
+    step-unknown z = rw (unknown-figures sys (sym sequences-of ∙ z))
+
+    module _ (h : f .sequences ≡ 0 → ⊥) where
+      pub step-end : length s ≤ at → step 0 at 0 ≡ walk sys s at
+      unfolding walk
+      step-end l = rw (is-known h, le-leb (length s) at l)
+
+      -- the number that the tests of the packet give
+      module _ (l : at < length s) (n : ℕ) (w : n ≡ stringFault (system sys) (take (length s - at) (drop at s))) where
+        fault-at : n ≡ stringFault (system sys) (drop at s)
+        fault-at = rw (rest-part at s) at w
+
+        pub step-fault : (n ≡ 0 → ⊥) → step n at 0 ≡ walk sys s at
+        unfolding walk
+        step-fault k = rw (is-known h, lt-leb (length s) at l, ← fault-at, ne-eqb n 0 k)
+
+        pub step-packet : n ≡ 0 → (dc : ℕ) → dc ≡ getD s (at + 5) 0 → step 0 at (dc + 7) ≡ walk sys s at
+        unfolding walk
+        step-packet z dc d =
+            let k : stringFault (system sys) (drop at s) ≡ 0 = sym fault-at ∙ z in
+            rw (is-known h, lt-leb (length s) at l, k, getD-drop at s 5 0, d)

@@ -1,0 +1,70 @@
+-- `danc::sum_of` meets its contract. The loop's invariant: the sum so far and that of the bytes ahead are, modulo 256, the whole's.
+use Prim.Native.Nat.{ℕ, _+_, _-_, _%_, _<_}
+use mathlib.Core.Path.{_≡_}
+use mathlib.Core.List.{List}
+use native.Mathlib.Omega.{arith}
+use native.Mathlib.Numerals.{add-one}
+use lib.ListN.{length, getD, drop, drop-of-length-le}
+use lib.Seq.{drop-cons}
+use borrow.Author.Needs.{needs}
+use Rattle.rules.specs.Base.{sum as total}
+use Rattle.danc.proofs.sum_of.Statement.{statement}
+use Rattle.danc.proofs.sum_of.Tie as tie
+
+-- the byte at i is added
+turn : (s : List ℕ) (i n : ℕ) → i < length s → (n + total (drop i s)) % 256 ≡ total s % 256
+    → ((n + getD s i 0) % 256 + total (drop (i + 1) s)) % 256 ≡ total s % 256
+turn s i n h e =
+    let f : (n + (getD s i 0 + total (drop (i + 1) s))) % 256 ≡ total s % 256 = rw (add-one i) (rw (drop-cons s i 0 h) at e) in
+    omega arith
+
+abbrev Inv-loop : tie.InvT-loop
+Inv-loop s sum₀ i₀ sum i = (sum < 256) × ((sum + total (drop i s)) % 256 ≡ total s % 256)
+
+abbrev μ-loop : tie.MeasureT-loop
+μ-loop s sum₀ i₀ sum i = length s - i
+
+loop-holds : tie.Need-loop-holds Inv-loop μ-loop
+loop-holds c = search needs
+
+shared-slice-read-sum : tie.Need-shared-slice-read-sum Inv-loop μ-loop
+shared-slice-read-sum c = search needs
+
+cast-sum : tie.Need-cast-sum Inv-loop μ-loop
+cast-sum c = omega (arith, c .shared-slice-known .given (c .before .before .loop .i))
+
+add-sum : tie.Need-add-sum Inv-loop μ-loop
+add-sum c = omega (arith, c .shared-slice-known .given (c .before .before .loop .i))
+
+add-i : tie.Need-add-i Inv-loop μ-loop
+add-i c = search needs
+
+loop-less : tie.Need-loop-less Inv-loop μ-loop
+loop-less c = search needs
+
+loop-again : tie.Need-loop-again Inv-loop μ-loop
+loop-again c = (omega arith, turn _ _ _ (c .before .loop-test .taken) (c .before .before .loop .inv .1))
+
+cast-result : tie.Need-cast-result Inv-loop μ-loop
+cast-result c = search needs
+
+returns : tie.Need-returns Inv-loop μ-loop
+returns c =
+    let e = rw (drop-of-length-le _ (c .loop-test .left)) at (c .before .loop .inv .1) in
+    omega arith
+
+pub sum-of-spec : {M : Type 1} → statement M
+sum-of-spec =
+    tie.close
+    (tie.spec
+    Inv-loop
+    μ-loop
+    loop-holds
+    shared-slice-read-sum
+    cast-sum
+    add-sum
+    add-i
+    loop-less
+    loop-again
+    cast-result
+    returns)

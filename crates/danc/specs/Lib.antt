@@ -1,0 +1,6 @@
+-- What the contracts of this crate cite, beside the rules.
+--
+--   Header      the line that header bytes show
+--   Validated   the answer of the validation of a string
+pub mod Header
+pub mod Validated

@@ -1,0 +1,224 @@
+// The DANC packet and the string: header bytes, a packet's faults, the walker's step, the validation of a string.
+// Document 01, "The packet", "Numbers given back" (5, 14 to 16), "The walker"; 001, figure 6. Quotations are from document 01.
+use frame::Line;
+use frame::figures_of;
+use rules::Step;
+ghost use mathlib.Core.Path.{_≡_};
+ghost use mathlib.Core.Bool.{cond};
+ghost use Prim.Native.Nat.{_+_, _*_, _/_, _%_, _≤_, _<_};
+ghost use lib.Dec.{eqb};
+ghost use lib.ListN.{length, getD};
+ghost use Rattle.rules.specs.Base.{allIs, sum};
+ghost use Rattle.rules.specs.Systems.{System};
+ghost use Rattle.rules.specs.Reading.{flagsOf, lineFault, bytesFault, stringFault, stringEnds};
+ghost use Rattle.rules.specs.Walker.{step, walk as walked};
+ghost use Rattle.danc.specs.Header.{lineRead};
+ghost use Rattle.danc.specs.Validated.{Within, validated};
+
+// A byte as a number of bytes, so that no caller has to show that the cast keeps it.
+fn wide(x: u8) -> usize
+    ensures { λ r. ⌜ (r ≡ x) × (r < 256) ⌝ }
+{
+    x as usize
+}
+
+// Header byte 0 (001, figure 6). "LE is 1 where there is a line."
+pub fn head0(line: Line) -> u8
+    ensures { λ r. ⌜ r ≡ cond (eqb (line .0) 0) 0 (128 + line .0 % 128) ⌝ }
+{
+    if line.0 == 0 {
+        return 0;
+    }
+    (128 + line.0 % 128) as u8
+}
+
+// Header byte 1 (001, figure 6). "Reserved bits are written 1". Line and flags are cut to their bits, so that any fit a byte.
+pub fn head1(line: Line, flags: u16) -> u8
+    ensures { λ r. ⌜ r ≡ flags % 2 * 128 + 96 + flags / 2 % 2 * 16 + line .0 / 128 % 16 ⌝ }
+{
+    (flags % 2 * 128 + 96 + flags / 2 % 2 * 16 + line.0 / 128 % 16) as u8
+}
+
+// The line of header bytes 0 and 1 (001, figure 6). "a reader disregards line bits when LE is 0"
+pub fn line_of(h0: u8, h1: u8) -> Line
+    ensures { λ r. ⌜ r ≡ lineRead h0 h1 ⌝ }
+{
+    if h0 < 128 {
+        return Line(0);
+    }
+    Line((h0 % 128) as u16 + (h1 % 16) as u16 * 128)
+}
+
+// The flags of header byte 1 (001, figure 6): FI in bit 7, YCF in bit 4. "The flags are carried and not judged."
+pub fn flags_of(h1: u8) -> u16
+    ensures { λ r. ⌜ r ≡ flagsOf h1 ⌝ }
+{
+    (h1 / 128 + 2 * (h1 / 16 % 2)) as u16
+}
+
+// "16 | LE is 1 and the line is 0 or past the last": apart from the sum, so that which lines may stand is said in one place.
+fn line_fault(last: Line, h0: u8, h1: u8) -> bool
+    ensures { λ r. ⌜ ((y : System) → y .last ≡ last .0 → r ≡ lineFault y h0 h1) ⌝ }
+{
+    if h0 < 128 {
+        return false;
+    }
+    let line = line_of(h0, h1);
+    if line.0 == 0 {
+        return true;
+    }
+    last.0 < line.0
+}
+
+// "Summing bytes: the low eight bits agree", and a stored CS byte has no others. Reduced after every byte.
+fn sum_of(s: &[u8]) -> u8
+    ensures { λ r. ⌜ r ≡ sum (now (s .entry)) % 256 ⌝ }
+{
+    let mut sum: u16 = 0;
+    let mut i = 0;
+    while i < s.len() {
+        sum = (sum + s[i] as u16) % 256;
+        i += 1;
+    }
+    sum as u8
+}
+
+// "15 | stored CS byte is not the sum's low byte", then 16, of bytes from header byte 0 to CS; 0 for neither.
+fn packet_fault(last: Line, s: &[u8]) -> u64
+    requires { ⌜ getD (now s) 5 0 + 7 ≤ length (now s) ⌝ }
+    ensures { λ r. ⌜ ((y : System) → y .last ≡ last .0 → r ≡ bytesFault y (now (s .entry))) ⌝ }
+{
+    let end = wide(s[5]) + 6;
+    let sum = sum_of(&s[3..end]);
+    if s[end] != sum {
+        return 15;
+    }
+    if line_fault(last, s[0], s[1]) {
+        return 16;
+    }
+    0
+}
+
+// "14 is given if fewer than 7 or fewer than DC + 7 bytes remain", then 15, 16, of the packet at the front; 0 for none.
+pub fn fault(last: Line, s: &[u8]) -> u64
+    ensures { λ r. ⌜ ((y : System) → y .last ≡ last .0 → r ≡ stringFault y (now (s .entry))) ⌝ }
+{
+    if s.len() < 7 {
+        return 14;
+    }
+    let size = wide(s[5]) + 7;
+    if s.len() < size {
+        return 14;
+    }
+    packet_fault(last, s)
+}
+
+// A step of the walker in one line, so that its four answers read like the list in document 01.
+fn answer(number: u64, place: u64, length: u64) -> Step
+    ensures { λ r. ⌜ r ≡ step number place length ⌝ }
+{
+    Step {
+        number: number,
+        place: place,
+        length: length,
+    }
+}
+
+// "Each step gives the next packet's place and length, the string's end, or 14, 15 or 16". The place is any number that a caller
+// hands in: it is compared before it is an index.
+pub fn walk(system: u64, string: &[u8], place: u64) -> Step
+    ensures { λ r. ⌜ r ≡ walked system (now (string .entry)) place ⌝ }
+{
+    let figures = figures_of(system);
+    if figures.sequences == 0 {
+        return answer(3, 0, 0);
+    }
+    if string.len() as u64 <= place {
+        return answer(0, place, 0);
+    }
+    let at = place as usize;
+    let last = figures.last_line;
+    let number = fault(last, &string[at..]);
+    if number != 0 {
+        return answer(number, place, 0);
+    }
+    answer(0, place, wide(string[at + 5]) as u64 + 7)
+}
+
+// "5 | .. reading: after 512 packets, not the end"
+const LIMIT: usize = 512;
+
+// No frame has more user bytes than 1,872 packs of 5, so no string is longer.
+const LONGEST: usize = 9360;
+
+// From here on an answer of `validate` is a refusal: no count and place come so far.
+pub const REFUSED: usize = 1073741824;
+
+// Whether every byte is FFh, with one test at the end: a test for each byte is slower.
+pub fn all_fill(s: &[u8]) -> bool
+    ensures { λ r. ⌜ r ≡ allIs 0xFF (now (s .entry)) ⌝ }
+{
+    let mut all: u8 = 255;
+    let mut i = 0;
+    while i < s.len() {
+        all = all & s[i];
+        i += 1;
+    }
+    all == 255
+}
+
+// "past the first string byte of the last pack, if all that remains is FFh or nothing remains, the walk ends": fewer bytes remain
+// than that pack has room for. A packet may begin with FFh, so the first FFh is no end.
+fn ends(room: usize, s: &[u8]) -> bool
+    ensures { λ r. ⌜ r ≡ stringEnds room (now (s .entry)) ⌝ }
+{
+    if s.len() < room {
+        return all_fill(s);
+    }
+    false
+}
+
+// A refusal's number and its packet in one number, past every count and place.
+fn refusal(number: u64, packet: usize) -> usize
+    requires { ⌜ (number ≤ 16) × (packet < 1024) ⌝ }
+    ensures { λ r. ⌜ r ≡ 1073741824 + 1024 * number + packet ⌝ }
+{
+    REFUSED + 1024 * (number as usize) + packet
+}
+
+// "A string is nothing, or one packet and then a string that is shorter by that packet": the bytes left fall at each call. At a
+// packet boundary the end is tested, then 5, 14, 15, 16.
+fn packets_from(last: Line, room: usize, s: &[u8], at: usize, k: usize) -> usize
+    requires { ⌜ Within (now s) at k ⌝ }
+    ensures { λ r. ⌜ ((y : System) → y .last ≡ last .0 → r ≡ validated y room (now (s .entry)) at k) ⌝ }
+{
+    if ends(room, &s[at..]) {
+        return k + 1024 * at;
+    }
+    if k == LIMIT {
+        return refusal(5, k);
+    }
+    let number = fault(last, &s[at..]);
+    if number != 0 {
+        return refusal(number, k);
+    }
+    let size = wide(s[at + 5]) + 7;
+    packets_from(last, room, s, at + size, k + 1)
+}
+
+// The string from place `at` on, where packet k begins: the packets with those before it, and 1,024 times the place where the last
+// ends; or from `REFUSED` on a refusal. Out of the bounds of a frame nothing is read, so that no sum can wrap.
+pub fn validate(last: Line, room: usize, s: &[u8], at: usize, k: usize) -> usize
+    ensures { λ r. ⌜ ((y : System) → y .last ≡ last .0 → Within (now (s .entry)) at k → r ≡ validated y room (now (s .entry)) at k) ⌝ }
+{
+    if LONGEST < s.len() {
+        return REFUSED;
+    }
+    if s.len() < at {
+        return REFUSED;
+    }
+    if LIMIT < k {
+        return REFUSED;
+    }
+    packets_from(last, room, s, at, k)
+}

@@ -1,0 +1,26 @@
+-- `packing1::fives::low_or_unused` meets its contract: the list of low bytes has the byte, or ends before it.
+-- Assumes nothing.
+use mathlib.Core.Path.{sym, _∙_}
+use borrow.Author.Needs.{needs}
+use Rattle.packing1.proofs.FivesLaws.{low-at, low-none}
+use Rattle.packing1.proofs.fives.low_or_unused.Statement.{statement}
+use Rattle.packing1.proofs.fives.low_or_unused.Tie as tie
+
+mul-low : tie.Need-mul-low
+mul-low c = search needs
+
+shared-slice-read-low : tie.Need-shared-slice-read-low
+shared-slice-read-low c = search needs
+
+low-requires : tie.Need-low-requires
+low-requires c κs = search needs
+
+returns : tie.Need-returns
+returns c = let d = c .before .before .before .before in c .low .ensures ∙ sym (low-at (d .args .ws .now) (d .args .i) (c .before .before .if1 .taken))
+
+returns-2 : tie.Need-returns-2
+returns-2 c = let d = c .before .before in sym (low-none (d .args .ws .now) (d .args .i) (c .if1 .left))
+
+pub low-or-unused-spec : {M : Type 1} → statement M
+low-or-unused-spec =
+    tie.close (tie.spec mul-low shared-slice-read-low low-requires returns returns-2)

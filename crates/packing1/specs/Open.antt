@@ -1,0 +1,109 @@
+-- Opening packs of 5: what the contracts of module `open` cite, beside the rules.
+--
+-- In order: packs in a run of bytes; their order (13); one packet (14); all of them.
+-- Assumes nothing.
+use Prim.Native.Nat.{ℕ, suc, _+_, _-_, _*_, _/_, _%_, _≤_, _<_}
+use mathlib.Core.Path.{_≡_}
+use mathlib.Core.Bool.{Bool, true, false, cond, _&&_, _||_}
+use mathlib.Core.List.{List, [], _∷_, _++_}
+use lib.Dec.{eqb, leb}
+use lib.ListN.{length, getD, take, drop}
+use Rattle.rules.specs.Base.{All}
+use Rattle.rules.specs.Systems.{System}
+use Rattle.rules.specs.Packet.{Packet}
+use Rattle.rules.specs.Danc.{Item, Good, packetsOf, string, stringBytes}
+use Rattle.rules.specs.Sheet.{limit}
+use Rattle.rules.specs.Packing1.{Five, fives}
+use Rattle.rules.specs.Numbers.{Outcome, listed, refused, unless, packetsIn}
+use Rattle.rules.specs.Reading.{lead, carried, frontBytes, carriersFit, packRow, inOrder}
+
+-- ---- packs in a run of bytes
+
+-- the packs from a place of the bytes to another
+abbrev pub packsAt : List ℕ → ℕ → ℕ → List Five
+packsAt us at end = fives (take (end - at) (drop at us))
+
+-- from a place of the bytes to another there are whole packs, one at least
+pub record Within (us : List ℕ) (at end : ℕ) : Type 0 where
+  pub one : at < end
+  pub all : end ≤ length us
+  pub whole : (end - at) % 5 ≡ 0
+
+-- ---- their order
+
+-- how many starters and carriers stand in front
+abbrev pub used : List Five → ℕ
+used [] = 0
+used (p ∷ ps) = cond (eqb (p .b0) 0xE1 || eqb (p .b0) 0xE2) (suc (used ps)) 0
+
+-- where fill begins behind packs in order that stand at a place; 1, no place of a pack, where the order is wrong
+unfoldable pub orderFrom : Bool → ℕ → List Five → ℕ
+orderFrom after at ps = cond (inOrder after ps) (at + 5 * used ps) 1
+
+-- ---- one packet
+
+-- the packet in front has a starter, and passes 14
+abbrev pub fits : List Five → Bool
+fits [] = false
+fits (p ∷ ps) = eqb (p .b0) 0xE1 && carriersFit (lead ps) (frontBytes (p ∷ ps))
+
+-- where the packs end of the packet at a place, if those between are carriers; 0: it does not pass 14
+pub record PacksEnd (us : List ℕ) (at total r : ℕ) : Type 0 where
+  pub shut : r ≡ 0 → fits (packsAt us at total) ≡ false
+  pub starts : (r ≡ 0 → ⊥) → getD us at 0 ≡ 0xE1
+  pub place : (r ≡ 0 → ⊥) → r ≡ at + 10 + (getD us (at + 8) 0 + 3) / 4 * 5
+  pub within : r ≤ total
+  pub ends : (r ≡ 0 → ⊥) → lead (packsAt us r total) ≡ 0
+
+abbrev pub allCarriers : List Five → Bool
+allCarriers [] = true
+allCarriers (p ∷ ps) = eqb (p .b0) 0xE2 && allCarriers ps
+
+-- s stands at a place behind what stood before it, and from `stop` on all is as it was
+pub record Moved (before after : List ℕ) (to : ℕ) (s : List ℕ) (stop : ℕ) : Type 0 where
+  pub laid : take (to + length s) after ≡ take to before ++ s
+  pub kept : drop stop after ≡ drop stop before
+
+-- what the carriers from a place to another carry was moved to a third, where it ends at r; 0: a pack is no carrier
+pub record CarriersOpened (before after : List ℕ) (from stop to r : ℕ) : Type 0 where
+  pub shut : r ≡ 0 → allCarriers (packsAt before from stop) ≡ false
+  pub carriers : (r ≡ 0 → ⊥) → allCarriers (packsAt before from stop) ≡ true
+  pub end : (r ≡ 0 → ⊥) → r ≡ to + length (carried (packsAt before from stop))
+  pub moved : (r ≡ 0 → ⊥) → Moved before after to (carried (packsAt before from stop)) stop
+
+-- the bytes of the packet at a place were moved to another, and its packs end at r; 0: it does not pass 14
+pub record PacketOpened (before after : List ℕ) (at total to r : ℕ) : Type 0 where
+  pub shut : r ≡ 0 → fits (packsAt before at total) ≡ false
+  pub passes : (r ≡ 0 → ⊥) → fits (packsAt before at total) ≡ true
+  pub place : (r ≡ 0 → ⊥) → r ≡ at + 10 + (getD (frontBytes (packsAt before at total)) 5 0 + 3) / 4 * 5
+  pub within : r ≤ total
+  pub moved : (r ≡ 0 → ⊥) → Moved before after to (frontBytes (packsAt before at total)) r
+
+-- ---- all of them
+
+-- packets and string bytes, or a refusal, as one number
+abbrev pub codeOf : Outcome → ℕ
+codeOf (listed ps) = length ps + 1024 * stringBytes ps
+codeOf (refused n i) = 1073741824 + 1024 * n + i
+
+-- the string of the packets, with some values of the bits that a reader disregards, stands in front
+pub record StringOf (y : System) (ps : List Packet) (us : List ℕ) : Type 0 where
+  pub items : List Item
+  pub good : All (Good y) items
+  pub packets : packetsOf items ≡ ps
+  pub front : take (stringBytes ps) us ≡ string items
+
+-- what opening gives back, and what it leaves in the bytes. (Behind the string, and after a refusal, anything may stand.)
+pub record Opens (y : System) (o : Outcome) (r : ℕ) (after : List ℕ) : Type 0 where
+  pub answer : r ≡ codeOf o
+  pub string : (ps : List Packet) → o ≡ listed ps → StringOf y ps after
+
+-- packet by packet 5, 14, 15, 16
+abbrev pub packetsFrom : System → List Five → Outcome
+packetsFrom y ps = packetsIn (packRow y) limit 0 ps
+
+-- 13, which is also given where the user bytes are not whole packs, then packet by packet
+unfoldable pub packetsOfFives : System → List ℕ → ℕ → Outcome
+packetsOfFives y us total =
+    unless 13 (leb total (length us) && eqb (total % 5) 0)
+    (unless 13 (inOrder false (fives (take total us))) (packetsFrom y (fives (take total us))))

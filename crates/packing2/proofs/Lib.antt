@@ -1,0 +1,3 @@
+-- What the proofs of this crate rest on, over plain values.
+pub mod LongLaws
+pub mod UnlongLaws

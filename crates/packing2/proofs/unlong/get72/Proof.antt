@@ -1,0 +1,60 @@
+-- `packing2::unlong::get72` meets its contract. The loop's invariant: the array has the first i bytes, and behind them what it began with.
+-- Assumes nothing.
+use Prim.Native.Nat.{_-_, _≤_}
+use mathlib.Core.Path.{_≡_, refl}
+use mathlib.Core.List.{_++_}
+use native.Mathlib.Omega.{arith}
+use lib.ListN.{replicate, take, drop}
+use borrow.Author.Needs.{needs}
+use Rattle.packing2.proofs.UnlongLaws.{get-turn, get-end}
+use Rattle.packing2.proofs.unlong.get72.Statement.{statement}
+use Rattle.packing2.proofs.unlong.get72.Tie as tie
+
+abbrev Inv-loop : tie.InvT-loop
+Inv-loop s from a₀ i₀ a i = (i ≤ 72) × (a ≡ take i (drop from s) ++ drop i a₀)
+
+abbrev μ-loop : tie.MeasureT-loop
+μ-loop s from a₀ i₀ a i = 72 - i
+
+loop-holds : tie.Need-loop-holds Inv-loop μ-loop
+loop-holds c = (search needs, refl)
+
+add-a : tie.Need-add-a Inv-loop μ-loop
+add-a c = search needs
+
+shared-slice-read-a : tie.Need-shared-slice-read-a Inv-loop μ-loop
+shared-slice-read-a c = search needs
+
+array-write-a : tie.Need-array-write-a Inv-loop μ-loop
+array-write-a c = search needs
+
+add-i : tie.Need-add-i Inv-loop μ-loop
+add-i c = search needs
+
+loop-less : tie.Need-loop-less Inv-loop μ-loop
+loop-less c = search needs
+
+loop-again : tie.Need-loop-again Inv-loop μ-loop
+loop-again c =
+    let l = c .before .before .loop in
+    (search needs, get-turn _ (l .a) _ (c .before .before .before .args .from) (l .i) (omega arith) (omega arith) (l .inv .1))
+
+returns : tie.Need-returns Inv-loop μ-loop
+returns c =
+    let z = c .before .before .args in
+    get-end (replicate 72 0) _ (z .s .now) (z .from) 72 (c .before .loop .i) (c .before .loop .inv .1) (omega arith) (omega arith)
+
+pub get72-spec : {M : Type 1} → statement M
+get72-spec =
+    tie.close
+    (tie.spec
+    Inv-loop
+    μ-loop
+    loop-holds
+    add-a
+    shared-slice-read-a
+    array-write-a
+    add-i
+    loop-less
+    loop-again
+    returns)
