@@ -1,88 +1,14 @@
 #!/usr/bin/env python3
 """Cases for the lister, and what it has to print: python3 tests/lister_cases.py writes crates/lister_cases/data/cases and its stdout.
 
-Written from document 01 and not from the Rattle code. A case is its length in four bytes, high byte first, and its bytes."""
+A case is its length in four bytes, high byte first, and its bytes."""
 import pathlib
 import random
 import struct
 
+from reference import LAST, listing, pack, packet, sheet
+
 HOME = pathlib.Path(__file__).resolve().parent.parent / "crates" / "lister_cases"
-LAST = {1: 1125, 2: 1125, 3: 750}
-
-
-def word(byte):
-    odd = bin(byte).count("1") % 2
-    return byte | (0x100 if odd else 0x200)
-
-
-def check(words):
-    total = sum(w & 0x1FF for w in words) & 0x1FF
-    return total | (0 if total & 0x100 else 0x200)
-
-
-def packet(did, sdid, user):
-    body = [word(b) for b in [did, sdid, len(user), *user]]
-    return [0, 0x3FF, 0x3FF, *body, check(body)]
-
-
-def sheet(system, locations, words, count=None, total=None):
-    flat = [n for pair in locations for n in pair]
-    return [1, system, len(locations) if count is None else count, *flat, len(words) if total is None else total, *words]
-
-
-def first_fault(words):
-    """7 to 10 of the packet in front, 0 for none."""
-    if len(words) < 7 or words[:3] != [0, 0x3FF, 0x3FF]:
-        return 7
-    if any(w != word(w & 0xFF) for w in words[3:6]):
-        return 8
-    dc = words[5] & 0xFF
-    if len(words) < dc + 7:
-        return 9
-    if any(w != word(w & 0xFF) for w in words[6 : 6 + dc]):
-        return 8
-    return 0 if words[6 + dc] == check(words[3 : 6 + dc]) else 10
-
-
-def listing(data):
-    if len(data) > 65536 or len(data) % 2:
-        return "refused 2 at 0\n"
-    s = list(struct.unpack(f">{len(data) // 2}H", data))
-    if len(s) < 4 or s[0] != 1:
-        return "refused 2 at 0\n"
-    count = s[2]
-    if len(s) < 4 + 2 * count or len(s) != 4 + 2 * count + s[3 + 2 * count]:
-        return "refused 2 at 0\n"
-    if s[1] not in LAST:
-        return "refused 3 at 0\n"
-    if count > 512:
-        return "refused 5 at 0\n"
-    locations = [(s[3 + 2 * k], s[4 + 2 * k]) for k in range(count)]
-    for k, (line, flags) in enumerate(locations):
-        if line > LAST[s[1]] or flags > 3:
-            return f"refused 6 at {k}\n"
-    words = s[4 + 2 * count :]
-    rows, at = [], 0
-    while at < len(words):
-        fault = first_fault(words[at:])
-        if fault:
-            return f"refused {fault} at {len(rows)}\n"
-        dc = words[at + 5] & 0xFF
-        rows.append((words[at + 3] & 0xFF, words[at + 4] & 0xFF, dc))
-        at += dc + 7
-    if len(rows) != count:
-        return "refused 11 at 0\n"
-    packs = sum(2 + -(-dc // 4) for _, _, dc in rows)
-    text = f"system {s[1]} packets {count} bytes {len(words)} packs {packs}\n"
-    for k, ((line, flags), (did, sdid, dc)) in enumerate(zip(locations, rows)):
-        text += f"{k} {line} {flags} {did:02X} {sdid:02X} {dc}\n"
-    return text
-
-
-def pack(numbers):
-    return struct.pack(f">{len(numbers)}H", *numbers)
-
-
 P = packet(0x45, 0x01, [0x10, 0x80])
 E = packet(0x45, 0x01, [])
 
