@@ -1,7 +1,6 @@
 // The lister's text on many files in one run: data/cases has them one after the other, each after its length in four bytes (made, with what is to be
 // printed, by tests/lister_cases.py).
 ghost use Prim.Native.Nat.{_≤_};
-ghost use mathlib.Core.Path.{_≡_};
 ghost use lib.ListN.{length};
 
 fn wide(x: u8) -> usize

@@ -12,12 +12,12 @@ use native.Mathlib.Numerals.{add-one, add-two, add-three, add-four, add-five, ad
 use lib.Bits.{bitAnd, and-comm, and-le-l, and-mask}
 use lib.Dec.{eqb, ltb, leb}
 use lib.ListN.{length, getD, take, drop, set, length-append, length-drop, length-map, drop-of-length-le}
-use lib.Seq.{drop-cons, length-take-le, take-nil, take-length, take-at, drop-at, take-take, take-append-add, drop-append-add, getD-append-add, getD-take, getD-drop, drop-drop, drop-set-lt, sets, length-sets, sets-eq}
+use lib.Seq.{drop-cons, length-take-le, take-nil, take-length, take-at, take-take, take-append-add, drop-append-add, getD-append-add, getD-take, drop-drop, drop-set-lt, sets, length-sets, sets-eq}
 use borrow.Author.Tests.{eqb-true, eqb-false, eq-eqb, ne-eqb, le-ltb, leb-true}
 use Rattle.rules.specs.Base.{allIs, All, none, one, Bytes}
 use Rattle.rules.specs.Systems.{System}
 use Rattle.rules.specs.Packet.{Packet, checkOf}
-use Rattle.rules.specs.Danc.{Item, Good, packetsOf, danc, string, bytesOf, stringBytes}
+use Rattle.rules.specs.Danc.{Item, Good, packetsOf, danc, string, stringBytes}
 use Rattle.rules.specs.Sheet.{limit}
 use Rattle.rules.specs.Packing1.{Five, five, flat, fives, carriersFor}
 use Rattle.rules.specs.Numbers.{Outcome, listed, refused, also, unless, Row, packetsIn}
@@ -25,7 +25,7 @@ use Rattle.rules.specs.Reading.{packetOfBytes, lineFault, bytesFault, stringFau
 use Rattle.rules.proofs.Basics.{never, both, second-false, take-bytes, drop-bytes, joined-append, all-append}
 use Rattle.rules.proofs.Strings.{danc-length, itemOf, bytes-laid, string-room}
 use Rattle.rules.proofs.Packs.{flat-fives, flat-length}
-use Rattle.packing1.specs.Open.{packsAt, Within, used, orderFrom, fits, PacksEnd, allCarriers, Moved, CarriersOpened, PacketOpened, codeOf, StringOf, Opens, packetsFrom, packetsOfFives}
+use Rattle.packing1.specs.Open.{packsAt, Within, used, orderFrom, fits, PacksEnd, allCarriers, Moved, CarriersOpened, PacketOpened, codeOf, Opens, packetsFrom, packetsOfFives}
 
 -- ---- fill
 

@@ -1,14 +1,9 @@
 -- `lister_cases::main` is safe and ends: at most 4,096 cases are listed.
 -- Assumes nothing.
-use Prim.Native.Nat.{ℕ, _≤_}
+use Prim.Native.Nat.{_≤_}
 use borrow.Author.Needs.{needs}
 use Rattle.lister_cases.proofs.main.Statement.{statement}
 use Rattle.lister_cases.proofs.main.Tie as tie
-use Rattle.lister_cases.proofs.main.Reads as reads
-use Rattle.lister_cases.proofs.main.Lts as lts
-use Rattle.lister_cases.proofs.list_next.Reads as list-next-reads
-use Rattle.os.proofs.fail.Reads as fail-reads
-use Rattle.os.proofs.open_read.Reads as open-read-reads
 
 abbrev Inv-loop : tie.InvT-loop
 Inv-loop fd left₀ left = left ≤ 4096
@@ -16,51 +11,39 @@ Inv-loop fd left₀ left = left ≤ 4096
 abbrev μ-loop : tie.MeasureT-loop
 μ-loop fd left₀ left = left
 
--- src/main.rt:48:28
 slice-aggregate-open-read : tie.Need-slice-aggregate-open-read Inv-loop μ-loop
 slice-aggregate-open-read c = search needs
 
--- src/main.rt:48:9
 open-read-requires : tie.Need-open-read-requires Inv-loop μ-loop
 open-read-requires c κs = search needs
 
--- src/main.rt:50:18
 slice-aggregate-fail : tie.Need-slice-aggregate-fail Inv-loop μ-loop
 slice-aggregate-fail c = search needs
 
--- src/main.rt:50:9
 fail-requires : tie.Need-fail-requires Inv-loop μ-loop
 fail-requires c κs = search needs
 
--- src/main.rt:51:9
 returns : tie.Need-returns Inv-loop μ-loop
 returns c = search needs
 
--- src/main.rt:54:5
 loop-holds : tie.Need-loop-holds Inv-loop μ-loop
 loop-holds c = search needs
 
--- src/main.rt:55:13
 list-next-requires : tie.Need-list-next-requires Inv-loop μ-loop
 list-next-requires c κs = search needs
 
--- src/main.rt:56:13
 returns-2 : tie.Need-returns-2 Inv-loop μ-loop
 returns-2 c = search needs
 
--- src/main.rt:58:9
 sub-left : tie.Need-sub-left Inv-loop μ-loop
 sub-left c = search needs
 
--- src/main.rt:54:5
 loop-less : tie.Need-loop-less Inv-loop μ-loop
 loop-less c = search needs
 
--- src/main.rt:54:5
 loop-again : tie.Need-loop-again Inv-loop μ-loop
 loop-again c = search needs
 
--- src/main.rt:47:1
 returns-3 : tie.Need-returns-3 Inv-loop μ-loop
 returns-3 c = search needs
 

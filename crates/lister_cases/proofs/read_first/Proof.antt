@@ -6,27 +6,19 @@ use lib.Seq.{length-take-le}
 use borrow.Author.Needs.{needs}
 use Rattle.lister_cases.proofs.read_first.Statement.{statement}
 use Rattle.lister_cases.proofs.read_first.Tie as tie
-use Rattle.lister_cases.proofs.read_first.Reads as reads
-use Rattle.lister_cases.proofs.read_first.Lts as lts
-use Rattle.lister_cases.proofs.read_case.Reads as read-case-reads
 
--- src/main.rt:38:19
 slice-relend-prefix-read-case : tie.Need-slice-relend-prefix-read-case
 slice-relend-prefix-read-case c = search needs
 
--- src/main.rt:38:19
 slice-aggregate-read-case : tie.Need-slice-aggregate-read-case
 slice-aggregate-read-case c = sym (length-take-le _ (c .before .before .args .file .now) (omega arith))
 
--- src/main.rt:38:5
 read-case-requires : tie.Need-read-case-requires
 read-case-requires c κs = search needs
 
--- src/main.rt:35:1
 same-length : tie.Need-same-length
 same-length c = search needs
 
--- src/main.rt:35:1
 returns : tie.Need-returns
 returns c = search needs
 

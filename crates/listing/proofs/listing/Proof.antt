@@ -6,23 +6,16 @@ use lib.Seq.{length-take-le}
 use borrow.Author.Needs.{needs}
 use Rattle.listing.proofs.listing.Statement.{statement}
 use Rattle.listing.proofs.listing.Tie as tie
-use Rattle.listing.proofs.listing.Reads as reads
-use Rattle.listing.proofs.listing.Lts as lts
-use Rattle.listing.proofs.text_of.Reads as text-of-reads
 
--- src/lib.rt:228:19
 slice-aggregate-text-of : tie.Need-slice-aggregate-text-of
 slice-aggregate-text-of c = search needs
 
--- src/lib.rt:228:5
 text-of-requires : tie.Need-text-of-requires
 text-of-requires c κs = search needs
 
--- src/lib.rt:224:1
 same-length : tie.Need-same-length
 same-length c = search needs
 
--- src/lib.rt:224:1
 returns : tie.Need-returns
 returns c =
     let k = c .before .before .before .text-of .kept .1 .1 .0 in

@@ -1,15 +1,11 @@
 -- `listing::put_rows` meets its contract: each row leaves the place within the buffer, and the packets left are fewer.
 -- Assumes nothing.
-use Prim.Native.Nat.{ℕ, _+_, _*_, _-_, _≤_}
+use Prim.Native.Nat.{_+_, _*_, _-_, _≤_}
 use mathlib.Core.Path.{_≡_}
 use lib.ListN.{length}
 use borrow.Author.Needs.{needs}
 use Rattle.listing.proofs.put_rows.Statement.{statement}
 use Rattle.listing.proofs.put_rows.Tie as tie
-use Rattle.listing.proofs.put_rows.Reads as reads
-use Rattle.listing.proofs.put_rows.Lts as lts
-use Rattle.listing.proofs.low.Reads as low-reads
-use Rattle.listing.proofs.put_row.Reads as put-row-reads
 
 abbrev Inv-loop : tie.InvT-loop
 Inv-loop out₀ from s packets at₀ k₀ w₀ out at k w = (length out ≡ length out₀) × (at ≤ length out) × (k ≤ packets) × (w ≤ 131074 + 262 * k)
@@ -17,99 +13,75 @@ Inv-loop out₀ from s packets at₀ k₀ w₀ out at k w = (length out ≡ leng
 abbrev μ-loop : tie.MeasureT-loop
 μ-loop out₀ from s packets at₀ k₀ w₀ out at k w = packets - k
 
--- src/lib.rt:164:21
 mul-w : tie.Need-mul-w Inv-loop μ-loop
 mul-w c = search needs
 
--- src/lib.rt:164:17
 add-w : tie.Need-add-w Inv-loop μ-loop
 add-w c = search needs
 
--- src/lib.rt:165:5
 loop-holds : tie.Need-loop-holds Inv-loop μ-loop
 loop-holds c = search needs
 
--- src/lib.rt:166:21
 mul-l : tie.Need-mul-l Inv-loop μ-loop
 mul-l c = search needs
 
--- src/lib.rt:166:17
 add-l : tie.Need-add-l Inv-loop μ-loop
 add-l c = search needs
 
--- src/lib.rt:167:22
 add-if1 : tie.Need-add-if1 Inv-loop μ-loop
 add-if1 c = search needs
 
--- src/lib.rt:168:13
 same-length : tie.Need-same-length Inv-loop μ-loop
 same-length c = search needs
 
--- src/lib.rt:168:13
 returns : tie.Need-returns Inv-loop μ-loop
 returns c = search needs
 
--- src/lib.rt:170:22
 add-if2 : tie.Need-add-if2 Inv-loop μ-loop
 add-if2 c = search needs
 
--- src/lib.rt:171:13
 same-length-2 : tie.Need-same-length-2 Inv-loop μ-loop
 same-length-2 c = search needs
 
--- src/lib.rt:171:13
 returns-2 : tie.Need-returns-2 Inv-loop μ-loop
 returns-2 c = search needs
 
--- src/lib.rt:173:9
 put-row-requires : tie.Need-put-row-requires Inv-loop μ-loop
 put-row-requires c κs = search needs
 
--- src/lib.rt:174:20
 add-low : tie.Need-add-low Inv-loop μ-loop
 add-low c = search needs
 
--- src/lib.rt:174:18
 mul-low : tie.Need-mul-low Inv-loop μ-loop
 mul-low c = search needs
 
--- src/lib.rt:174:18
 shared-slice-read-low : tie.Need-shared-slice-read-low Inv-loop μ-loop
 shared-slice-read-low c = search needs
 
--- src/lib.rt:174:14
 low-requires : tie.Need-low-requires Inv-loop μ-loop
 low-requires c κs = search needs
 
--- src/lib.rt:174:14
 cast-w : tie.Need-cast-w Inv-loop μ-loop
 cast-w c = search needs
 
--- src/lib.rt:174:14
 add-w-2 : tie.Need-add-w-2 Inv-loop μ-loop
 add-w-2 c = search needs
 
--- src/lib.rt:174:9
 add-w-3 : tie.Need-add-w-3 Inv-loop μ-loop
 add-w-3 c = search needs
 
--- src/lib.rt:175:9
 add-k : tie.Need-add-k Inv-loop μ-loop
 add-k c = search needs
 
--- src/lib.rt:165:5
 loop-less : tie.Need-loop-less Inv-loop μ-loop
 loop-less c = search needs
 
--- src/lib.rt:165:5
 loop-again : tie.Need-loop-again Inv-loop μ-loop
 loop-again c = search needs
 
--- src/lib.rt:158:1
 same-length-3 : tie.Need-same-length-3 Inv-loop μ-loop
 same-length-3 c = search needs
 
--- src/lib.rt:158:1
 returns-3 : tie.Need-returns-3 Inv-loop μ-loop
 returns-3 c = search needs
 

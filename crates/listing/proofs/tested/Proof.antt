@@ -8,37 +8,25 @@ use Rattle.listing.proofs.Laws.{too-long, odd, whole}
 use borrow.Author.Needs.{needs}
 use Rattle.listing.proofs.tested.Statement.{statement}
 use Rattle.listing.proofs.tested.Tie as tie
-use Rattle.listing.proofs.tested.Reads as reads
-use Rattle.listing.proofs.tested.Lts as lts
-use Rattle.listing.proofs.decode.Reads as decode-reads
-use Rattle.listing.proofs.two_at_0.Reads as two-at-0-reads
-use Rattle.sheet.proofs.test.Reads as test-reads
 
--- src/lib.rt:53:9
 two-at-0-requires : tie.Need-two-at-0-requires
 two-at-0-requires c κs = search needs
 
--- src/lib.rt:53:9
 returns : tie.Need-returns
 returns c = c .two-at-0 .ensures ∙ sym (ap (testedOf _) (too-long (c .before .before .before .before .args .file .now) (c .before .if1 .taken)))
 
--- src/lib.rt:56:9
 two-at-0-requires-2 : tie.Need-two-at-0-requires-2
 two-at-0-requires-2 c κs = search needs
 
--- src/lib.rt:56:9
 returns-2 : tie.Need-returns-2
 returns-2 c = c .two-at-02 .ensures ∙ sym (ap (testedOf _) (odd (c .before .before .before .before .before .args .file .now) (c .before .if2 .taken)))
 
--- src/lib.rt:58:5
 decode-requires : tie.Need-decode-requires
 decode-requires c κs = search needs
 
--- src/lib.rt:60:17
 slice-reshare-prefix-test : tie.Need-slice-reshare-prefix-test
 slice-reshare-prefix-test c = search needs
 
--- src/lib.rt:60:17
 slice-aggregate-test : tie.Need-slice-aggregate-test
 slice-aggregate-test c =
     let k = c .before .before .before .decode .kept .1 .0 in
@@ -46,15 +34,12 @@ slice-aggregate-test c =
     let r = c .before .before .before .before .before .before .before .before .before .pre in
     sym (length-take-le _ (c .before .before .before .decode .last .1 .0) (omega arith))
 
--- src/lib.rt:60:5
 test-requires : tie.Need-test-requires
 test-requires c κs = search needs
 
--- src/lib.rt:48:1
 same-length : tie.Need-same-length
 same-length c = search needs
 
--- src/lib.rt:48:1
 returns-3 : tie.Need-returns-3
 returns-3 c =
     whole (c .before .before .before .before .before .before .before .before .before .before .args .file .now) (c .test .result) _ (c .before .before .before .before .before .before .before .if1 .left) (c .before .before .before .before .before .before .if2 .left) (c .before .before .before .before .decode .ensures) (c .test .ensures)

@@ -6,31 +6,22 @@ use lib.Seq.{length-take-le}
 use borrow.Author.Needs.{needs}
 use Rattle.packet_cases.proofs.after_word.Statement.{statement}
 use Rattle.packet_cases.proofs.after_word.Tie as tie
-use Rattle.packet_cases.proofs.after_word.Reads as reads
-use Rattle.packet_cases.proofs.after_word.Lts as lts
-use Rattle.packet_cases.proofs.try_packet.Reads as try-packet-reads
 
--- src/main.rt:140:32
 slice-relend-prefix-try-packet : tie.Need-slice-relend-prefix-try-packet
 slice-relend-prefix-try-packet c = search needs
 
--- src/main.rt:140:32
 slice-aggregate-try-packet : tie.Need-slice-aggregate-try-packet
 slice-aggregate-try-packet c = sym (length-take-le _ (c .before .before .before .args .ws .now) (omega arith))
 
--- src/main.rt:140:13
 try-packet-requires : tie.Need-try-packet-requires
 try-packet-requires c κs = search needs
 
--- src/main.rt:141:9
 same-length : tie.Need-same-length
 same-length c = search needs
 
--- src/main.rt:141:9
 returns : tie.Need-returns
 returns c = search needs
 
--- src/main.rt:135:1
 returns-2 : tie.Need-returns-2
 returns-2 c = search needs
 

@@ -1,6 +1,6 @@
 -- `packet_cases::flips` meets its contract: of the flips done, no more are counted than there were.
 -- Assumes nothing.
-use Prim.Native.Nat.{ℕ, _-_, _≤_}
+use Prim.Native.Nat.{_-_, _≤_}
 use mathlib.Core.Path.{_≡_}
 use mathlib.Core.Logic.{⊎-elim}
 use native.Mathlib.Omega.{arith}
@@ -8,9 +8,6 @@ use lib.ListN.{length}
 use borrow.Author.Needs.{needs}
 use Rattle.packet_cases.proofs.flips.Statement.{statement}
 use Rattle.packet_cases.proofs.flips.Tie as tie
-use Rattle.packet_cases.proofs.flips.Reads as reads
-use Rattle.packet_cases.proofs.flips.Lts as lts
-use Rattle.packet.proofs.fault.Reads as fault-reads
 
 abbrev Inv-loop : tie.InvT-loop
 Inv-loop ws₀ i number w bit₀ done₀ good₀ ws bit done good = (length ws ≡ length ws₀) × (done ≤ 10) × (good ≤ done)
@@ -18,63 +15,48 @@ Inv-loop ws₀ i number w bit₀ done₀ good₀ ws bit done good = (length ws �
 abbrev μ-loop : tie.MeasureT-loop
 μ-loop ws₀ i number w bit₀ done₀ good₀ ws bit done good = 10 - done
 
--- src/main.rt:63:13
 mul-w : tie.Need-mul-w Inv-loop μ-loop
 mul-w c = search needs
 
--- src/main.rt:63:13
 slice-read-w : tie.Need-slice-read-w Inv-loop μ-loop
 slice-read-w c = search needs
 
--- src/main.rt:67:5
 loop-holds : tie.Need-loop-holds Inv-loop μ-loop
 loop-holds c = search needs
 
--- src/main.rt:68:9
 mul-ws : tie.Need-mul-ws Inv-loop μ-loop
 mul-ws c = search needs
 
--- src/main.rt:68:9
 slice-write-ws : tie.Need-slice-write-ws Inv-loop μ-loop
 slice-write-ws c = search needs
 
--- src/main.rt:69:12
 fault-requires : tie.Need-fault-requires Inv-loop μ-loop
 fault-requires c κs = search needs
 
--- src/main.rt:70:13
 add-good : tie.Need-add-good Inv-loop μ-loop
 add-good c = search needs
 
--- src/main.rt:72:15
 mul-bit : tie.Need-mul-bit Inv-loop μ-loop
 mul-bit c = search needs
 
--- src/main.rt:73:9
 add-done : tie.Need-add-done Inv-loop μ-loop
 add-done c = search needs
 
--- src/main.rt:67:5
 loop-less : tie.Need-loop-less Inv-loop μ-loop
 loop-less c = search needs
 
--- src/main.rt:67:5
 loop-again : tie.Need-loop-again Inv-loop μ-loop
 loop-again c = (search needs, omega arith, ⊎-elim (λ w. omega arith) (λ w. omega arith) (c .if1 .came))
 
--- src/main.rt:75:5
 mul-ws-2 : tie.Need-mul-ws-2 Inv-loop μ-loop
 mul-ws-2 c = search needs
 
--- src/main.rt:75:5
 slice-write-ws-2 : tie.Need-slice-write-ws-2 Inv-loop μ-loop
 slice-write-ws-2 c = search needs
 
--- src/main.rt:59:1
 same-length : tie.Need-same-length Inv-loop μ-loop
 same-length c = search needs
 
--- src/main.rt:59:1
 returns : tie.Need-returns Inv-loop μ-loop
 returns c = search needs
 

@@ -33,44 +33,37 @@ starter-at t = and 1 starter-kinds.ps (is 1 starter-kinds.ps μ-starter t) start
 abbrev starter-below : ℕ → In 1 starter-kinds.ps
 starter-below t = and 1 starter-kinds.ps (falls 1 starter-kinds.ps _<_ μ-starter t) starter.Pre
 
--- src/open.rt:49:9
 carrier-returns :
     (t : ℕ) → carrier-lts.Need-returns (starter-below t, starter.Post) (carrier-at t) carrier.Post
 carrier-returns t c = order-short (c .before .args .us .now) (c .before .args .at) (c .before .args .total) (c .if1 .taken)
 
--- src/open.rt:51:8
 carrier-element-copy-out-if2 : (t : ℕ) → carrier-lts.Need-element-copy-out-if2 (
   starter-below t,
   starter.Post,
 ) (carrier-at t) carrier.Post
 carrier-element-copy-out-if2 t c = search needs
 
--- src/open.rt:52:28
 carrier-add-starter :
     (t : ℕ) →
     carrier-lts.Need-add-starter (starter-below t, starter.Post) (carrier-at t) carrier.Post
 carrier-add-starter t c = search needs
 
--- src/open.rt:52:9
 carrier-starter-requires : (t : ℕ) → carrier-lts.Need-starter-requires (
   starter-below t,
   starter.Post,
 ) (carrier-at t) carrier.Post
 carrier-starter-requires t c κs = search needs
 
--- src/open.rt:52:9
 carrier-returns-2 :
     (t : ℕ) →
     carrier-lts.Need-returns-2 (starter-below t, starter.Post) (carrier-at t) carrier.Post
 carrier-returns-2 t c = let a = c .before .before .before .before .args in let z = c .before .before .before .before .pre .1 in order-second (a .us .now) (a .at) (a .total) (c .starter .result) (omega arith) (omega arith) (c .before .if2 .taken) (c .starter .ensures)
 
--- src/open.rt:44:1
 carrier-returns-3 :
     (t : ℕ) →
     carrier-lts.Need-returns-3 (starter-below t, starter.Post) (carrier-at t) carrier.Post
 carrier-returns-3 t c = let a = c .before .before .before .args in let z = c .before .before .before .pre .1 in order-no-carrier (a .us .now) (a .at) (a .total) (1) (omega arith) (omega arith) (c .if2 .left)
 
--- src/open.rt:27:9
 starter-returns : (t : ℕ) → starter-lts.Need-returns (
   starter-below t,
   starter.Post,
@@ -81,7 +74,6 @@ starter-returns : (t : ℕ) → starter-lts.Need-returns (
 ) (starter-at t) starter.Post
 starter-returns t c = order-end (c .before .args .us .now) (c .before .args .at) (c .before .args .total) (c .if1 .taken)
 
--- src/open.rt:29:16
 starter-element-copy-out-head : (t : ℕ) → starter-lts.Need-element-copy-out-head (
   starter-below t,
   starter.Post,
@@ -92,7 +84,6 @@ starter-element-copy-out-head : (t : ℕ) → starter-lts.Need-element-copy-out-
 ) (starter-at t) starter.Post
 starter-element-copy-out-head t c = search needs
 
--- src/open.rt:31:28
 starter-add-starter : (t : ℕ) → starter-lts.Need-add-starter (
   starter-below t,
   starter.Post,
@@ -103,7 +94,6 @@ starter-add-starter : (t : ℕ) → starter-lts.Need-add-starter (
 ) (starter-at t) starter.Post
 starter-add-starter t c = search needs
 
--- src/open.rt:31:9
 starter-starter-requires : (t : ℕ) → starter-lts.Need-starter-requires (
   starter-below t,
   starter.Post,
@@ -114,7 +104,6 @@ starter-starter-requires : (t : ℕ) → starter-lts.Need-starter-requires (
 ) (starter-at t) starter.Post
 starter-starter-requires t c κs = search needs
 
--- src/open.rt:31:9
 starter-returns-2 : (t : ℕ) → starter-lts.Need-returns-2 (
   starter-below t,
   starter.Post,
@@ -125,7 +114,6 @@ starter-returns-2 : (t : ℕ) → starter-lts.Need-returns-2 (
 ) (starter-at t) starter.Post
 starter-returns-2 t c = let a = c .before .before .before .before .args in let z = c .before .before .before .before .pre .1 in order-carrier (a .us .now) (a .at) (a .total) (c .starter .result) (omega arith) (omega arith) (c .before .if2 .taken) (c .starter .ensures)
 
--- src/open.rt:34:28
 starter-add-carrier : (t : ℕ) → starter-lts.Need-add-carrier (
   starter-below t,
   starter.Post,
@@ -136,7 +124,6 @@ starter-add-carrier : (t : ℕ) → starter-lts.Need-add-carrier (
 ) (starter-at t) starter.Post
 starter-add-carrier t c = search needs
 
--- src/open.rt:34:9
 starter-carrier-requires : (t : ℕ) → starter-lts.Need-carrier-requires (
   starter-below t,
   starter.Post,
@@ -147,7 +134,6 @@ starter-carrier-requires : (t : ℕ) → starter-lts.Need-carrier-requires (
 ) (starter-at t) starter.Post
 starter-carrier-requires t c κs = search needs
 
--- src/open.rt:34:9
 starter-returns-3 : (t : ℕ) → starter-lts.Need-returns-3 (
   starter-below t,
   starter.Post,
@@ -158,7 +144,6 @@ starter-returns-3 : (t : ℕ) → starter-lts.Need-returns-3 (
 ) (starter-at t) starter.Post
 starter-returns-3 t c = let a = c .before .before .before .before .before .args in let z = c .before .before .before .before .before .pre .1 in order-starter (a .us .now) (a .at) (a .total) (c .carrier .result) (omega arith) (omega arith) (c .before .if3 .taken) (c .carrier .ensures)
 
--- src/open.rt:37:17
 starter-sub-all-fill : (t : ℕ) → starter-lts.Need-sub-all-fill (
   starter-below t,
   starter.Post,
@@ -169,7 +154,6 @@ starter-sub-all-fill : (t : ℕ) → starter-lts.Need-sub-all-fill (
 ) (starter-at t) starter.Post
 starter-sub-all-fill t c = search needs
 
--- src/open.rt:37:17
 starter-part-all-fill-start : (t : ℕ) → starter-lts.Need-part-all-fill-start (
   starter-below t,
   starter.Post,
@@ -180,7 +164,6 @@ starter-part-all-fill-start : (t : ℕ) → starter-lts.Need-part-all-fill-start
 ) (starter-at t) starter.Post
 starter-part-all-fill-start t c = search needs
 
--- src/open.rt:37:17
 starter-part-all-fill-end : (t : ℕ) → starter-lts.Need-part-all-fill-end (
   starter-below t,
   starter.Post,
@@ -191,7 +174,6 @@ starter-part-all-fill-end : (t : ℕ) → starter-lts.Need-part-all-fill-end (
 ) (starter-at t) starter.Post
 starter-part-all-fill-end t c = search needs
 
--- src/open.rt:37:8
 starter-all-fill-requires : (t : ℕ) → starter-lts.Need-all-fill-requires (
   starter-below t,
   starter.Post,
@@ -202,7 +184,6 @@ starter-all-fill-requires : (t : ℕ) → starter-lts.Need-all-fill-requires (
 ) (starter-at t) starter.Post
 starter-all-fill-requires t c κs = search needs
 
--- src/open.rt:38:9
 starter-returns-4 : (t : ℕ) → starter-lts.Need-returns-4 (
   starter-below t,
   starter.Post,
@@ -213,7 +194,6 @@ starter-returns-4 : (t : ℕ) → starter-lts.Need-returns-4 (
 ) (starter-at t) starter.Post
 starter-returns-4 t c = let a = c .before .before .before .before .before .before .before .before .args in let z = c .before .before .before .before .before .before .before .before .pre .1 in order-fill (a .us .now) (a .at) (a .total) (1) (omega arith) (omega arith) (z .2) (c .before .before .before .before .before .if2 .left) (c .before .before .before .before .if3 .left) (sym (c .before .all-fill .ensures) ∙ c .if4 .taken)
 
--- src/open.rt:22:1
 starter-returns-5 : (t : ℕ) → starter-lts.Need-returns-5 (
   starter-below t,
   starter.Post,

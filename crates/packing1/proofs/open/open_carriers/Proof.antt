@@ -5,8 +5,6 @@ use borrow.Author.Needs.{needs}
 use Rattle.packing1.proofs.OpenLaws.{Carrying, carry-none, carry-more, carry-wrong, carry-done}
 use Rattle.packing1.proofs.open.open_carriers.Statement.{statement}
 use Rattle.packing1.proofs.open.open_carriers.Tie as tie
-use Rattle.packing1.proofs.open.open_carriers.Reads as reads
-use Rattle.packing1.proofs.open.open_carriers.Lts as lts
 
 abbrev Inv-loop : tie.InvT-loop
 Inv-loop us₀ from stop to f₀ o₀ us f o = Carrying us₀ us from stop to f o
@@ -14,103 +12,78 @@ Inv-loop us₀ from stop to f₀ o₀ us f o = Carrying us₀ us from stop to f 
 abbrev μ-loop : tie.MeasureT-loop
 μ-loop us₀ from stop to f₀ o₀ us f o = stop - f
 
--- src/open.rt:116:5
 loop-holds : tie.Need-loop-holds Inv-loop μ-loop
 loop-holds c = carry-none (c .args .us .now) (c .args .from) (c .args .stop) (c .args .to) (c .pre .0) (c .pre .2)
 
--- src/open.rt:117:12
 slice-read-if1 : tie.Need-slice-read-if1 Inv-loop μ-loop
 slice-read-if1 c = search needs
 
--- src/open.rt:118:13
 same-length : tie.Need-same-length Inv-loop μ-loop
 same-length c = c .before .before .before .loop .inv .long
 
--- src/open.rt:118:13
 returns : tie.Need-returns Inv-loop μ-loop
 returns c = carry-wrong (c .before .before .before .before .args .us .now) (c .before .before .before .loop .us) (c .before .before .before .before .args .from) (c .before .before .before .before .args .stop) (c .before .before .before .before .args .to) (c .before .before .before .loop .f) (c .before .before .before .loop .o) (c .before .before .before .before .pre .0 .all) (c .before .before .before .loop .inv) (c .before .before .loop-test .taken) (c .if1 .taken)
 
--- src/open.rt:120:20
 add-a : tie.Need-add-a Inv-loop μ-loop
 add-a c = search needs
 
--- src/open.rt:120:17
 slice-read-a : tie.Need-slice-read-a Inv-loop μ-loop
 slice-read-a c = search needs
 
--- src/open.rt:121:20
 add-b : tie.Need-add-b Inv-loop μ-loop
 add-b c = search needs
 
--- src/open.rt:121:17
 slice-read-b : tie.Need-slice-read-b Inv-loop μ-loop
 slice-read-b c = search needs
 
--- src/open.rt:122:20
 add-c : tie.Need-add-c Inv-loop μ-loop
 add-c c = search needs
 
--- src/open.rt:122:17
 slice-read-c : tie.Need-slice-read-c Inv-loop μ-loop
 slice-read-c c = search needs
 
--- src/open.rt:123:20
 add-d : tie.Need-add-d Inv-loop μ-loop
 add-d c = search needs
 
--- src/open.rt:123:17
 slice-read-d : tie.Need-slice-read-d Inv-loop μ-loop
 slice-read-d c = search needs
 
--- src/open.rt:124:9
 slice-write-us : tie.Need-slice-write-us Inv-loop μ-loop
 slice-write-us c = search needs
 
--- src/open.rt:125:12
 add-us : tie.Need-add-us Inv-loop μ-loop
 add-us c = search needs
 
--- src/open.rt:125:9
 slice-write-us-2 : tie.Need-slice-write-us-2 Inv-loop μ-loop
 slice-write-us-2 c = simp length-set (omega arith)
 
--- src/open.rt:126:12
 add-us-2 : tie.Need-add-us-2 Inv-loop μ-loop
 add-us-2 c = search needs
 
--- src/open.rt:126:9
 slice-write-us-3 : tie.Need-slice-write-us-3 Inv-loop μ-loop
 slice-write-us-3 c = simp length-set (omega arith)
 
--- src/open.rt:127:12
 add-us-3 : tie.Need-add-us-3 Inv-loop μ-loop
 add-us-3 c = search needs
 
--- src/open.rt:127:9
 slice-write-us-4 : tie.Need-slice-write-us-4 Inv-loop μ-loop
 slice-write-us-4 c = simp length-set (omega arith)
 
--- src/open.rt:128:9
 add-f : tie.Need-add-f Inv-loop μ-loop
 add-f c = search needs
 
--- src/open.rt:129:9
 add-o : tie.Need-add-o Inv-loop μ-loop
 add-o c = search needs
 
--- src/open.rt:116:5
 loop-less : tie.Need-loop-less Inv-loop μ-loop
 loop-less c = search needs
 
--- src/open.rt:116:5
 loop-again : tie.Need-loop-again Inv-loop μ-loop
 loop-again c = carry-more (c .before .before .before .before .before .before .before .before .args .us .now) (c .before .before .before .before .before .before .before .loop .us) (c .before .before .before .before .before .before .before .before .args .from) (c .before .before .before .before .before .before .before .before .args .stop) (c .before .before .before .before .before .before .before .before .args .to) (c .before .before .before .before .before .before .before .loop .f) (c .before .before .before .before .before .before .before .loop .o) (c .before .before .before .before .before .before .before .before .pre .0 .all) (c .before .before .before .before .before .before .before .loop .inv) (c .before .before .before .before .before .before .loop-test .taken) (c .before .before .before .before .if1 .left)
 
--- src/open.rt:110:1
 same-length-2 : tie.Need-same-length-2 Inv-loop μ-loop
 same-length-2 c = c .before .loop .inv .long
 
--- src/open.rt:110:1
 returns-2 : tie.Need-returns-2 Inv-loop μ-loop
 returns-2 c = let w = c .before .before .pre .0 .one in carry-done (c .before .before .args .us .now) (c .before .loop .us) (c .before .before .args .from) (c .before .before .args .stop) (c .before .before .args .to) (c .before .loop .f) (c .before .loop .o) (c .before .before .pre .0 .all) (c .before .loop .inv) (c .loop-test .left) (c .before .before .pre .1) (omega arith) (c .before .before .pre .2)
 

@@ -6,138 +6,100 @@ use Rattle.packing1.proofs.OpenLaws.{headed-length, stop-is, inside, ca
 use borrow.Author.Needs.{needs}
 use Rattle.packing1.proofs.open.open_packet.Statement.{statement}
 use Rattle.packing1.proofs.open.open_packet.Tie as tie
-use Rattle.packing1.proofs.open.open_packet.Reads as reads
-use Rattle.packing1.proofs.open.open_packet.Lts as lts
-use Rattle.danc.proofs.all_fill.Reads as all-fill-reads
-use Rattle.packing1.proofs.open.open_carriers.Reads as open-carriers-reads
-use Rattle.packing1.proofs.open.packs_end.Reads as packs-end-reads
-use Rattle.packing1.proofs.open.wide.Reads as wide-reads
 
--- src/open.rt:140:9
 packs-end-requires : tie.Need-packs-end-requires
 packs-end-requires c κs = search needs
 
--- src/open.rt:142:9
 same-length : tie.Need-same-length
 same-length c = search needs
 
--- src/open.rt:142:9
 returns : tie.Need-returns
 returns c = packet-not (c .before .before .before .before .args .us .now) (c .before .before .before .before .args .us .now) (c .before .before .before .before .args .at) (c .before .before .before .before .args .total) (c .before .before .before .before .args .to) (c .before .packs-end .ensures .shut (c .if1 .taken))
 
--- src/open.rt:144:28
 add-wide : tie.Need-add-wide
 add-wide c = search needs
 
--- src/open.rt:144:25
 slice-read-wide : tie.Need-slice-read-wide
 slice-read-wide c = let p = stop-is (c .before .before .before .before .before .args .us .now) (c .before .before .before .before .before .args .at) (c .before .before .before .before .before .args .total) (c .before .before .packs-end .result) (c .before .before .before .before .before .args .to) (c .before .before .before .before .before .pre .0) (c .before .before .packs-end .ensures) (c .before .if1 .left) (c .before .before .before .before .before .pre .1) in let i = inside (c .before .before .before .before .before .args .us .now) (c .before .before .before .before .before .args .at) (c .before .before .before .before .before .args .total) (c .before .before .packs-end .result) (c .before .before .before .before .before .args .to) (c .before .before .before .before .before .pre .0) (c .before .before .packs-end .ensures) (c .before .if1 .left) (c .before .before .before .before .before .pre .1) in omega arith
 
--- src/open.rt:144:20
 wide-requires : tie.Need-wide-requires
 wide-requires c κs = search needs
 
--- src/open.rt:144:15
 add-end : tie.Need-add-end
 add-end c = search needs
 
--- src/open.rt:144:15
 add-end-2 : tie.Need-add-end-2
 add-end-2 c = search needs
 
--- src/open.rt:145:17
 add-h0 : tie.Need-add-h0
 add-h0 c = search needs
 
--- src/open.rt:145:14
 slice-read-h0 : tie.Need-slice-read-h0
 slice-read-h0 c = search needs
 
--- src/open.rt:146:17
 add-h1 : tie.Need-add-h1
 add-h1 c = search needs
 
--- src/open.rt:146:14
 slice-read-h1 : tie.Need-slice-read-h1
 slice-read-h1 c = search needs
 
--- src/open.rt:147:17
 add-h2 : tie.Need-add-h2
 add-h2 c = search needs
 
--- src/open.rt:147:14
 slice-read-h2 : tie.Need-slice-read-h2
 slice-read-h2 c = search needs
 
--- src/open.rt:148:5
 slice-write-us : tie.Need-slice-write-us
 slice-write-us c = search needs
 
--- src/open.rt:149:8
 add-us : tie.Need-add-us
 add-us c = search needs
 
--- src/open.rt:149:5
 slice-write-us-2 : tie.Need-slice-write-us-2
 slice-write-us-2 c = simp length-set (omega arith)
 
--- src/open.rt:150:8
 add-us-2 : tie.Need-add-us-2
 add-us-2 c = search needs
 
--- src/open.rt:150:5
 slice-write-us-3 : tie.Need-slice-write-us-3
 slice-write-us-3 c = simp length-set (omega arith)
 
--- src/open.rt:151:34
 add-open-carriers : tie.Need-add-open-carriers
 add-open-carriers c = search needs
 
--- src/open.rt:151:48
 add-open-carriers-2 : tie.Need-add-open-carriers-2
 add-open-carriers-2 c = search needs
 
--- src/open.rt:151:9
 open-carriers-requires : tie.Need-open-carriers-requires
 open-carriers-requires c κs = (carriers-within (c .before .before .before .before .before .before .before .before .before .before .args .us .now) (c .before .before .before .before .before .before .before .before .before .before .args .at) (c .before .before .before .before .before .before .before .before .before .before .args .total) (c .before .before .before .before .before .before .before .packs-end .result) (c .before .before .before .before .before .before .before .before .before .before .args .to) (c .before .before .before .before .before .before .before .before .before .before .pre .0) (c .before .before .before .before .before .before .before .packs-end .ensures) (c .before .before .before .before .before .before .if1 .left) (c .before .before .before .before .before .before .before .before .before .before .pre .1), omega arith, omega arith)
 
--- src/open.rt:153:9
 same-length-2 : tie.Need-same-length-2
 same-length-2 c = c .before .before .before .open-carriers .kept .0 ∙ headed-length (c .before .before .before .before .before .before .before .before .before .before .before .before .before .before .args .us .now) (c .before .before .before .before .before .before .before .before .before .before .before .before .before .before .args .at) (c .before .before .before .before .before .before .before .before .before .before .before .before .before .before .args .to)
 
--- src/open.rt:153:9
 returns-2 : tie.Need-returns-2
 returns-2 c = packet-not (c .before .before .before .before .before .before .before .before .before .before .before .before .before .before .args .us .now) (c .before .before .before .open-carriers .last .0) (c .before .before .before .before .before .before .before .before .before .before .before .before .before .before .args .at) (c .before .before .before .before .before .before .before .before .before .before .before .before .before .before .args .total) (c .before .before .before .before .before .before .before .before .before .before .before .before .before .before .args .to) (opened-shut (c .before .before .before .before .before .before .before .before .before .before .before .before .before .before .args .us .now) (c .before .before .before .before .before .before .before .before .before .before .before .before .before .before .args .at) (c .before .before .before .before .before .before .before .before .before .before .before .before .before .before .args .total) (c .before .before .before .before .before .before .before .before .before .before .before .packs-end .result) (c .before .before .before .before .before .before .before .before .before .before .before .before .before .before .args .to) (c .before .before .before .before .before .before .before .before .before .before .before .before .before .before .pre .0) (c .before .before .before .before .before .before .before .before .before .before .before .packs-end .ensures) (c .before .before .before .before .before .before .before .before .before .before .if1 .left) (c .before .before .before .before .before .before .before .before .before .before .before .before .before .before .pre .1) (c .before .before .before .open-carriers .last .0) (c .before .before .before .open-carriers .result) (c .before .before .before .open-carriers .ensures) (c .if2 .taken))
 
--- src/open.rt:155:18
 sub-all-fill : tie.Need-sub-all-fill
 sub-all-fill c = let k = full-between (c .before .before .before .before .before .before .before .before .before .before .before .before .before .before .args .us .now) (c .before .before .before .before .before .before .before .before .before .before .before .before .before .before .args .at) (c .before .before .before .before .before .before .before .before .before .before .before .before .before .before .args .total) (c .before .before .before .before .before .before .before .before .before .before .before .packs-end .result) (c .before .before .before .before .before .before .before .before .before .before .before .before .before .before .args .to) (c .before .before .before .before .before .before .before .before .before .before .before .before .before .before .pre .0) (c .before .before .before .before .before .before .before .before .before .before .before .packs-end .ensures) (c .before .before .before .before .before .before .before .before .before .before .if1 .left) (c .before .before .before .before .before .before .before .before .before .before .before .before .before .before .pre .1) (c .before .before .before .open-carriers .last .0) (c .before .before .before .open-carriers .result) (c .before .before .before .open-carriers .ensures) (c .if2 .left) in let q = c .before .before .before .before .before .before .before .before .wide .ensures .0 in omega arith
 
--- src/open.rt:155:18
 part-all-fill-start : tie.Need-part-all-fill-start
 part-all-fill-start c = let k = full-between (c .before .before .before .before .before .before .before .before .before .before .before .before .before .before .before .args .us .now) (c .before .before .before .before .before .before .before .before .before .before .before .before .before .before .before .args .at) (c .before .before .before .before .before .before .before .before .before .before .before .before .before .before .before .args .total) (c .before .before .before .before .before .before .before .before .before .before .before .before .packs-end .result) (c .before .before .before .before .before .before .before .before .before .before .before .before .before .before .before .args .to) (c .before .before .before .before .before .before .before .before .before .before .before .before .before .before .before .pre .0) (c .before .before .before .before .before .before .before .before .before .before .before .before .packs-end .ensures) (c .before .before .before .before .before .before .before .before .before .before .before .if1 .left) (c .before .before .before .before .before .before .before .before .before .before .before .before .before .before .before .pre .1) (c .before .before .before .before .open-carriers .last .0) (c .before .before .before .before .open-carriers .result) (c .before .before .before .before .open-carriers .ensures) (c .before .if2 .left) in let q = c .before .before .before .before .before .before .before .before .before .wide .ensures .0 in omega arith
 
--- src/open.rt:155:18
 part-all-fill-end : tie.Need-part-all-fill-end
 part-all-fill-end c = let k = full-between (c .before .before .before .before .before .before .before .before .before .before .before .before .before .before .before .args .us .now) (c .before .before .before .before .before .before .before .before .before .before .before .before .before .before .before .args .at) (c .before .before .before .before .before .before .before .before .before .before .before .before .before .before .before .args .total) (c .before .before .before .before .before .before .before .before .before .before .before .before .packs-end .result) (c .before .before .before .before .before .before .before .before .before .before .before .before .before .before .before .args .to) (c .before .before .before .before .before .before .before .before .before .before .before .before .before .before .before .pre .0) (c .before .before .before .before .before .before .before .before .before .before .before .before .packs-end .ensures) (c .before .before .before .before .before .before .before .before .before .before .before .if1 .left) (c .before .before .before .before .before .before .before .before .before .before .before .before .before .before .before .pre .1) (c .before .before .before .before .open-carriers .last .0) (c .before .before .before .before .open-carriers .result) (c .before .before .before .before .open-carriers .ensures) (c .before .if2 .left) in let i = inside (c .before .before .before .before .before .before .before .before .before .before .before .before .before .before .before .args .us .now) (c .before .before .before .before .before .before .before .before .before .before .before .before .before .before .before .args .at) (c .before .before .before .before .before .before .before .before .before .before .before .before .before .before .before .args .total) (c .before .before .before .before .before .before .before .before .before .before .before .before .packs-end .result) (c .before .before .before .before .before .before .before .before .before .before .before .before .before .before .before .args .to) (c .before .before .before .before .before .before .before .before .before .before .before .before .before .before .before .pre .0) (c .before .before .before .before .before .before .before .before .before .before .before .before .packs-end .ensures) (c .before .before .before .before .before .before .before .before .before .before .before .if1 .left) (c .before .before .before .before .before .before .before .before .before .before .before .before .before .before .before .pre .1) in let l = c .before .before .before .before .open-carriers .kept .0 ∙ headed-length (c .before .before .before .before .before .before .before .before .before .before .before .before .before .before .before .args .us .now) (c .before .before .before .before .before .before .before .before .before .before .before .before .before .before .before .args .at) (c .before .before .before .before .before .before .before .before .before .before .before .before .before .before .before .args .to) in omega arith
 
--- src/open.rt:155:9
 all-fill-requires : tie.Need-all-fill-requires
 all-fill-requires c κs = search needs
 
--- src/open.rt:156:9
 same-length-3 : tie.Need-same-length-3
 same-length-3 c = c .before .before .before .before .before .before .before .open-carriers .kept .0 ∙ headed-length (c .before .before .before .before .before .before .before .before .before .before .before .before .before .before .before .before .before .before .args .us .now) (c .before .before .before .before .before .before .before .before .before .before .before .before .before .before .before .before .before .before .args .at) (c .before .before .before .before .before .before .before .before .before .before .before .before .before .before .before .before .before .before .args .to)
 
--- src/open.rt:156:9
 returns-3 : tie.Need-returns-3
 returns-3 c = packet-not (c .before .before .before .before .before .before .before .before .before .before .before .before .before .before .before .before .before .before .args .us .now) (c .before .before .before .before .before .before .before .open-carriers .last .0) (c .before .before .before .before .before .before .before .before .before .before .before .before .before .before .before .before .before .before .args .at) (c .before .before .before .before .before .before .before .before .before .before .before .before .before .before .before .before .before .before .args .total) (c .before .before .before .before .before .before .before .before .before .before .before .before .before .before .before .before .before .before .args .to) (packet-shut (c .before .before .before .before .before .before .before .before .before .before .before .before .before .before .before .before .before .before .args .us .now) (c .before .before .before .before .before .before .before .before .before .before .before .before .before .before .before .before .before .before .args .at) (c .before .before .before .before .before .before .before .before .before .before .before .before .before .before .before .before .before .before .args .total) (c .before .before .before .before .before .before .before .before .before .before .before .before .before .before .before .packs-end .result) (c .before .before .before .before .before .before .before .before .before .before .before .before .before .before .before .before .before .before .args .to) (c .before .before .before .before .before .before .before .before .before .before .before .before .before .before .before .before .before .before .pre .0) (c .before .before .before .before .before .before .before .before .before .before .before .before .before .before .before .packs-end .ensures) (c .before .before .before .before .before .before .before .before .before .before .before .before .before .before .if1 .left) (c .before .before .before .before .before .before .before .before .before .before .before .before .before .before .before .before .before .before .pre .1) (c .before .before .before .before .before .before .before .open-carriers .last .0) (c .before .before .before .before .before .before .before .open-carriers .result) (c .before .before .before .before .before .before .before .open-carriers .ensures) (c .before .before .before .before .if2 .left) (c .before .before .before .before .before .before .before .before .before .before .before .before .wide .result) (c .before .before .before .before .before .before .before .before .before .before .before .before .wide .ensures .0) (sym (c .before .all-fill .ensures) ∙ not-true (c .before .all-fill .result) (c .if3 .taken)))
 
--- src/open.rt:136:1
 same-length-4 : tie.Need-same-length-4
 same-length-4 c = c .before .before .before .before .before .before .before .open-carriers .kept .0 ∙ headed-length (c .before .before .before .before .before .before .before .before .before .before .before .before .before .before .before .before .before .before .args .us .now) (c .before .before .before .before .before .before .before .before .before .before .before .before .before .before .before .before .before .before .args .at) (c .before .before .before .before .before .before .before .before .before .before .before .before .before .before .before .before .before .before .args .to)
 
--- src/open.rt:136:1
 returns-4 : tie.Need-returns-4
 returns-4 c = packet-opened (c .before .before .before .before .before .before .before .before .before .before .before .before .before .before .before .before .before .before .args .us .now) (c .before .before .before .before .before .before .before .before .before .before .before .before .before .before .before .before .before .before .args .at) (c .before .before .before .before .before .before .before .before .before .before .before .before .before .before .before .before .before .before .args .total) (c .before .before .before .before .before .before .before .before .before .before .before .before .before .before .before .packs-end .result) (c .before .before .before .before .before .before .before .before .before .before .before .before .before .before .before .before .before .before .args .to) (c .before .before .before .before .before .before .before .before .before .before .before .before .before .before .before .before .before .before .pre .0) (c .before .before .before .before .before .before .before .before .before .before .before .before .before .before .before .packs-end .ensures) (c .before .before .before .before .before .before .before .before .before .before .before .before .before .before .if1 .left) (c .before .before .before .before .before .before .before .before .before .before .before .before .before .before .before .before .before .before .pre .1) (c .before .before .before .before .before .before .before .open-carriers .last .0) (c .before .before .before .before .before .before .before .open-carriers .result) (c .before .before .before .before .before .before .before .open-carriers .ensures) (c .before .before .before .before .if2 .left) (c .before .before .before .before .before .before .before .before .before .before .before .before .wide .result) (c .before .before .before .before .before .before .before .before .before .before .before .before .wide .ensures .0) (sym (c .before .all-fill .ensures) ∙ not-false (c .before .all-fill .result) (c .if3 .left))
 

@@ -5,12 +5,6 @@ use borrow.Author.Needs.{needs}
 use Rattle.packing1.proofs.OpenLaws.{Opening, opening-none, opening-done, opening-more, packet-within, size-within, size-below, next-is, refused-opens, refused-five, refused-fourteen, refused-other, fault-below}
 use Rattle.packing1.proofs.open.open_packets.Statement.{statement}
 use Rattle.packing1.proofs.open.open_packets.Tie as tie
-use Rattle.packing1.proofs.open.open_packets.Reads as reads
-use Rattle.packing1.proofs.open.open_packets.Lts as lts
-use Rattle.danc.proofs.fault.Reads as fault-reads
-use Rattle.packing1.proofs.open.open_packet.Reads as open-packet-reads
-use Rattle.packing1.proofs.open.refusal.Reads as refusal-reads
-use Rattle.packing1.proofs.open.wide.Reads as wide-reads
 
 abbrev Inv-loop : tie.InvT-loop
 Inv-loop last us₀ total fill r₀ w₀ k₀ us r w k = Opening (last .0) us₀ us total fill r w k
@@ -18,111 +12,84 @@ Inv-loop last us₀ total fill r₀ w₀ k₀ us r w k = Opening (last .0) us₀
 abbrev μ-loop : tie.MeasureT-loop
 μ-loop last us₀ total fill r₀ w₀ k₀ us r w k = fill - r
 
--- src/open.rt:174:5
 loop-holds : tie.Need-loop-holds Inv-loop μ-loop
 loop-holds c = opening-none (c .before .args .last .0) (c .before .args .us .now) (c .before .args .total) (c .before .args .fill) (c .before .pre .0 .0) (c .before .pre .1 .0)
 
--- src/open.rt:175:13
 open-packet-requires : tie.Need-open-packet-requires Inv-loop μ-loop
 open-packet-requires c κs = let p = c .before .before .before .before .pre .0 in (packet-within (c .before .before .before .before .args .last .0) (c .before .before .before .before .args .us .now) (c .before .before .loop .us) (c .before .before .before .before .args .total) (c .before .before .before .before .args .fill) (c .before .before .loop .r) (c .before .before .loop .w) (c .before .before .loop .k) (omega arith) (c .before .before .loop .inv) (c .before .loop-test .taken), c .before .before .loop .inv .low)
 
--- src/open.rt:177:13
 refusal-requires : tie.Need-refusal-requires Inv-loop μ-loop
 refusal-requires c κs = search needs
 
--- src/open.rt:177:13
 same-length : tie.Need-same-length Inv-loop μ-loop
 same-length c = c .before .before .before .before .open-packet .kept .0 ∙ c .before .before .before .before .before .before .before .loop .inv .long
 
--- src/open.rt:177:13
 returns : tie.Need-returns Inv-loop μ-loop
 returns c = λ y e. let p = c .before .before .before .before .before .before .before .before .before .pre .0 in refused-opens y _ 5 (c .before .before .before .before .before .before .before .loop .k) (c .refusal .result) (c .before .before .before .before .open-packet .last .0) (refused-five (c .before .before .before .before .before .before .before .before .before .args .last .0) (c .before .before .before .before .before .before .before .before .before .args .us .now) (c .before .before .before .before .before .before .before .loop .us) (c .before .before .before .before .before .before .before .before .before .args .total) (c .before .before .before .before .before .before .before .before .before .args .fill) (c .before .before .before .before .before .before .before .loop .r) (c .before .before .before .before .before .before .before .loop .w) (c .before .before .before .before .before .before .before .loop .k) (omega arith) (c .before .before .before .before .before .before .before .loop .inv) (c .before .before .before .before .before .before .loop-test .taken) (c .before .if1 .taken) y e) (c .refusal .ensures)
 
--- src/open.rt:180:13
 refusal-requires-2 : tie.Need-refusal-requires-2 Inv-loop μ-loop
 refusal-requires-2 c κs = search needs
 
--- src/open.rt:180:13
 same-length-2 : tie.Need-same-length-2 Inv-loop μ-loop
 same-length-2 c = c .before .before .before .before .before .open-packet .kept .0 ∙ c .before .before .before .before .before .before .before .before .loop .inv .long
 
--- src/open.rt:180:13
 returns-2 : tie.Need-returns-2 Inv-loop μ-loop
 returns-2 c = λ y e. let p = c .before .before .before .before .before .before .before .before .before .before .pre .0 in refused-opens y _ 14 (c .before .before .before .before .before .before .before .before .loop .k) (c .refusal2 .result) (c .before .before .before .before .before .open-packet .last .0) (refused-fourteen (c .before .before .before .before .before .before .before .before .before .before .args .last .0) (c .before .before .before .before .before .before .before .before .before .before .args .us .now) (c .before .before .before .before .before .before .before .before .loop .us) (c .before .before .before .before .before .before .before .before .before .before .args .total) (c .before .before .before .before .before .before .before .before .before .before .args .fill) (c .before .before .before .before .before .before .before .before .loop .r) (c .before .before .before .before .before .before .before .before .loop .w) (c .before .before .before .before .before .before .before .before .loop .k) (omega arith) (c .before .before .before .before .before .before .before .before .loop .inv) (c .before .before .before .before .before .before .before .loop-test .taken) (c .before .before .if1 .left) (c .before .before .before .before .before .open-packet .last .0) (c .before .before .before .before .before .open-packet .result) (c .before .before .before .before .before .open-packet .ensures) (c .before .if2 .taken) y e) (c .refusal2 .ensures)
 
--- src/open.rt:182:31
 add-wide : tie.Need-add-wide Inv-loop μ-loop
 add-wide c = search needs
 
--- src/open.rt:182:28
 slice-read-wide : tie.Need-slice-read-wide Inv-loop μ-loop
 slice-read-wide c = let p = c .before .before .before .before .before .before .before .before .before .before .pre .0 in let a = size-within (c .before .before .before .before .before .before .before .before .before .before .args .last .0) (c .before .before .before .before .before .before .before .before .before .before .args .us .now) (c .before .before .before .before .before .before .before .before .loop .us) (c .before .before .before .before .before .before .before .before .before .before .args .total) (c .before .before .before .before .before .before .before .before .before .before .args .fill) (c .before .before .before .before .before .before .before .before .loop .r) (c .before .before .before .before .before .before .before .before .loop .w) (c .before .before .before .before .before .before .before .before .loop .k) (omega arith) (c .before .before .before .before .before .before .before .before .loop .inv) (c .before .before .before .before .before .before .before .loop-test .taken) (c .before .before .if1 .left) (c .before .before .before .before .before .open-packet .last .0) (c .before .before .before .before .before .open-packet .result) (c .before .before .before .before .before .open-packet .ensures) (c .before .if2 .left) in let b = c .before .before .before .before .before .open-packet .ensures .within in let q = c .before .before .before .before .before .open-packet .kept .0 ∙ c .before .before .before .before .before .before .before .before .loop .inv .long in omega arith
 
--- src/open.rt:182:23
 wide-requires : tie.Need-wide-requires Inv-loop μ-loop
 wide-requires c κs = search needs
 
--- src/open.rt:182:19
 add-end : tie.Need-add-end Inv-loop μ-loop
 add-end c = search needs
 
--- src/open.rt:182:19
 add-end-2 : tie.Need-add-end-2 Inv-loop μ-loop
 add-end-2 c = search needs
 
--- src/open.rt:183:40
 sub-fault : tie.Need-sub-fault Inv-loop μ-loop
 sub-fault c = omega arith
 
--- src/open.rt:183:40
 part-fault-start : tie.Need-part-fault-start Inv-loop μ-loop
 part-fault-start c = omega arith
 
--- src/open.rt:183:40
 part-fault-end : tie.Need-part-fault-end Inv-loop μ-loop
 part-fault-end c = let p = c .before .before .before .before .before .before .before .before .before .before .before .before .pre .0 in let a = size-below (c .before .before .before .before .before .before .before .before .before .before .before .before .args .last .0) (c .before .before .before .before .before .before .before .before .before .before .before .before .args .us .now) (c .before .before .before .before .before .before .before .before .before .before .loop .us) (c .before .before .before .before .before .before .before .before .before .before .before .before .args .total) (c .before .before .before .before .before .before .before .before .before .before .before .before .args .fill) (c .before .before .before .before .before .before .before .before .before .before .loop .r) (c .before .before .before .before .before .before .before .before .before .before .loop .w) (c .before .before .before .before .before .before .before .before .before .before .loop .k) (omega arith) (c .before .before .before .before .before .before .before .before .before .before .loop .inv) (c .before .before .before .before .before .before .before .before .before .loop-test .taken) (c .before .before .before .before .if1 .left) (c .before .before .before .before .before .before .before .open-packet .last .0) (c .before .before .before .before .before .before .before .open-packet .result) (c .before .before .before .before .before .before .before .open-packet .ensures) (c .before .before .before .if2 .left) (c .before .wide .result) (c .before .wide .ensures .0) in let b = c .before .before .before .before .before .before .before .open-packet .ensures .within in let q = c .before .before .before .before .before .before .before .open-packet .kept .0 ∙ c .before .before .before .before .before .before .before .before .before .before .loop .inv .long in omega arith
 
--- src/open.rt:183:13
 fault-requires : tie.Need-fault-requires Inv-loop μ-loop
 fault-requires c κs = search needs
 
--- src/open.rt:185:13
 refusal-requires-3 : tie.Need-refusal-requires-3 Inv-loop μ-loop
 refusal-requires-3 c κs = (fault-below (c .before .before .before .before .before .before .before .before .before .before .before .before .before .before .before .args .last .0) (c .before .fault .result) _ (c .before .fault .ensures), c .before .before .before .before .before .before .before .before .before .before .before .before .before .loop .inv .few)
 
--- src/open.rt:185:13
 same-length-3 : tie.Need-same-length-3 Inv-loop μ-loop
 same-length-3 c = c .before .before .before .before .before .before .before .before .before .before .before .open-packet .kept .0 ∙ c .before .before .before .before .before .before .before .before .before .before .before .before .before .before .loop .inv .long
 
--- src/open.rt:185:13
 returns-3 : tie.Need-returns-3 Inv-loop μ-loop
 returns-3 c = λ y e. let p = c .before .before .before .before .before .before .before .before .before .before .before .before .before .before .before .before .pre .0 in refused-opens y _ (c .before .before .fault .result) (c .before .before .before .before .before .before .before .before .before .before .before .before .before .before .loop .k) (c .refusal3 .result) (c .before .before .before .before .before .before .before .before .before .before .before .open-packet .last .0) (refused-other (c .before .before .before .before .before .before .before .before .before .before .before .before .before .before .before .before .args .last .0) (c .before .before .before .before .before .before .before .before .before .before .before .before .before .before .before .before .args .us .now) (c .before .before .before .before .before .before .before .before .before .before .before .before .before .before .loop .us) (c .before .before .before .before .before .before .before .before .before .before .before .before .before .before .before .before .args .total) (c .before .before .before .before .before .before .before .before .before .before .before .before .before .before .before .before .args .fill) (c .before .before .before .before .before .before .before .before .before .before .before .before .before .before .loop .r) (c .before .before .before .before .before .before .before .before .before .before .before .before .before .before .loop .w) (c .before .before .before .before .before .before .before .before .before .before .before .before .before .before .loop .k) (omega arith) (c .before .before .before .before .before .before .before .before .before .before .before .before .before .before .loop .inv) (c .before .before .before .before .before .before .before .before .before .before .before .before .before .loop-test .taken) (c .before .before .before .before .before .before .before .before .if1 .left) (c .before .before .before .before .before .before .before .before .before .before .before .open-packet .last .0) (c .before .before .before .before .before .before .before .before .before .before .before .open-packet .result) (c .before .before .before .before .before .before .before .before .before .before .before .open-packet .ensures) (c .before .before .before .before .before .before .before .if2 .left) (c .before .before .before .before .before .wide .result) (c .before .before .before .before .before .wide .ensures .0) (c .before .before .fault .result) (c .before .before .fault .ensures) (c .before .if3 .taken) y e) (c .refusal3 .ensures)
 
--- src/open.rt:189:9
 add-k : tie.Need-add-k Inv-loop μ-loop
 add-k c = search needs
 
--- src/open.rt:174:5
 loop-less : tie.Need-loop-less Inv-loop μ-loop
 loop-less c = let p = c .before .before .before .before .before .before .before .before .before .before .before .before .before .before .before .pre .0 in let n = next-is (c .before .before .before .before .before .before .before .before .before .before .before .before .before .before .before .args .last .0) (c .before .before .before .before .before .before .before .before .before .before .before .before .before .before .before .args .us .now) (c .before .before .before .before .before .before .before .before .before .before .before .before .before .loop .us) (c .before .before .before .before .before .before .before .before .before .before .before .before .before .before .before .args .total) (c .before .before .before .before .before .before .before .before .before .before .before .before .before .before .before .args .fill) (c .before .before .before .before .before .before .before .before .before .before .before .before .before .loop .r) (c .before .before .before .before .before .before .before .before .before .before .before .before .before .loop .w) (c .before .before .before .before .before .before .before .before .before .before .before .before .before .loop .k) (omega arith) (c .before .before .before .before .before .before .before .before .before .before .before .before .before .loop .inv) (c .before .before .before .before .before .before .before .before .before .before .before .before .loop-test .taken) (c .before .before .before .before .before .before .before .if1 .left) (c .before .before .before .before .before .before .before .before .before .before .open-packet .last .0) (c .before .before .before .before .before .before .before .before .before .before .open-packet .result) (c .before .before .before .before .before .before .before .before .before .before .open-packet .ensures) (c .before .before .before .before .before .before .if2 .left) in omega arith
 
--- src/open.rt:174:5
 loop-again : tie.Need-loop-again Inv-loop μ-loop
 loop-again c = let p = c .before .before .before .before .before .before .before .before .before .before .before .before .before .before .before .pre .0 in opening-more (c .before .before .before .before .before .before .before .before .before .before .before .before .before .before .before .args .last .0) (c .before .before .before .before .before .before .before .before .before .before .before .before .before .before .before .args .us .now) (c .before .before .before .before .before .before .before .before .before .before .before .before .before .loop .us) (c .before .before .before .before .before .before .before .before .before .before .before .before .before .before .before .args .total) (c .before .before .before .before .before .before .before .before .before .before .before .before .before .before .before .args .fill) (c .before .before .before .before .before .before .before .before .before .before .before .before .before .loop .r) (c .before .before .before .before .before .before .before .before .before .before .before .before .before .loop .w) (c .before .before .before .before .before .before .before .before .before .before .before .before .before .loop .k) (omega arith) (c .before .before .before .before .before .before .before .before .before .before .before .before .before .loop .inv) (c .before .before .before .before .before .before .before .before .before .before .before .before .loop-test .taken) (c .before .before .before .before .before .before .before .if1 .left) (c .before .before .before .before .before .before .before .before .before .before .open-packet .last .0) (c .before .before .before .before .before .before .before .before .before .before .open-packet .result) (c .before .before .before .before .before .before .before .before .before .before .open-packet .ensures) (c .before .before .before .before .before .before .if2 .left) (c .before .before .before .before .wide .result) (c .before .before .before .before .wide .ensures .0) (c .before .fault .result) (c .before .fault .ensures) (c .if3 .left) (λ i. c .before .before .before .before .before .before .before .before .slice-known2 .given i .fits) (c .before .before .before .before .before .before .before .before .before .before .open-packet .kept .0)
 
--- src/open.rt:191:9
 mul-result : tie.Need-mul-result Inv-loop μ-loop
 mul-result c = search needs
 
--- src/open.rt:191:5
 add-result : tie.Need-add-result Inv-loop μ-loop
 add-result c = search needs
 
--- src/open.rt:162:1
 same-length-4 : tie.Need-same-length-4 Inv-loop μ-loop
 same-length-4 c = c .before .loop .inv .long
 
--- src/open.rt:162:1
 returns-4 : tie.Need-returns-4 Inv-loop μ-loop
 returns-4 c = λ y e. let p = c .before .before .before .pre .0 in opening-done (c .before .before .before .args .last .0) (c .before .before .before .args .us .now) (c .before .loop .us) (c .before .before .before .args .total) (c .before .before .before .args .fill) (c .before .loop .r) (c .before .loop .w) (c .before .loop .k) (omega arith) (c .before .loop .inv) (c .loop-test .left) (c .before .before .before .pre .1 .1) y e
 

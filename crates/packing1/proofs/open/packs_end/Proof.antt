@@ -5,71 +5,52 @@ use Rattle.rules.specs.Reading.{lead}
 use Rattle.packing1.proofs.OpenLaws.{packs-none, lead-none, no-starter, no-carrier, too-few, too-many, ends-at, ends-not}
 use Rattle.packing1.proofs.open.packs_end.Statement.{statement}
 use Rattle.packing1.proofs.open.packs_end.Tie as tie
-use Rattle.packing1.proofs.open.packs_end.Reads as reads
-use Rattle.packing1.proofs.open.packs_end.Lts as lts
-use Rattle.packing1.proofs.open.wide.Reads as wide-reads
 
--- src/open.rt:91:8
 shared-slice-read-if1 : tie.Need-shared-slice-read-if1
 shared-slice-read-if1 c = search needs
 
--- src/open.rt:92:9
 returns : tie.Need-returns
 returns c = ends-not (c .before .before .before .args .us .now) (c .before .before .before .args .at) (c .before .before .before .args .total) (c .before .before .before .pre) (no-starter (c .before .before .before .args .us .now) (c .before .before .before .args .at) (c .before .before .before .args .total) (c .before .before .before .pre) (c .if1 .taken))
 
--- src/open.rt:94:16
 add-if2 : tie.Need-add-if2
 add-if2 c = search needs
 
--- src/open.rt:95:9
 returns-2 : tie.Need-returns-2
 returns-2 c = ends-not (c .before .before .before .before .args .us .now) (c .before .before .before .before .args .at) (c .before .before .before .before .args .total) (c .before .before .before .before .pre) (no-carrier (c .before .before .before .before .args .us .now) (c .before .before .before .before .args .at) (c .before .before .before .before .args .total) (c .before .before .before .before .pre) (c .if2 .taken))
 
--- src/open.rt:97:16
 add-stop : tie.Need-add-stop
 add-stop c = search needs
 
--- src/open.rt:97:35
 add-wide : tie.Need-add-wide
 add-wide c = search needs
 
--- src/open.rt:97:32
 shared-slice-read-wide : tie.Need-shared-slice-read-wide
 shared-slice-read-wide c = search needs
 
--- src/open.rt:97:27
 wide-requires : tie.Need-wide-requires
 wide-requires c κs = search needs
 
--- src/open.rt:97:27
 add-stop-2 : tie.Need-add-stop-2
 add-stop-2 c = search needs
 
--- src/open.rt:97:26
 mul-stop : tie.Need-mul-stop
 mul-stop c = search needs
 
--- src/open.rt:97:16
 add-stop-3 : tie.Need-add-stop-3
 add-stop-3 c = search needs
 
--- src/open.rt:99:9
 returns-3 : tie.Need-returns-3
 returns-3 c = ends-not (c .before .before .before .before .before .before .before .args .us .now) (c .before .before .before .before .before .before .before .args .at) (c .before .before .before .before .before .before .before .args .total) (c .before .before .before .before .before .before .before .pre) (too-few (c .before .before .before .before .before .before .before .args .us .now) (c .before .before .before .before .before .before .before .args .at) (c .before .before .before .before .before .before .before .args .total) (c .before .before .before .before .before .before .before .pre) (c .before .wide .result) (c .before .wide .ensures .0) (c .before .before .before .if2 .left) (c .if3 .taken))
 
--- src/open.rt:102:12
 shared-slice-read-if5 : tie.Need-shared-slice-read-if5
 shared-slice-read-if5 c = search needs
 
--- src/open.rt:103:13
 returns-4 : tie.Need-returns-4
 returns-4 c = ends-not (c .before .before .before .before .before .before .before .before .before .before .args .us .now) (c .before .before .before .before .before .before .before .before .before .before .args .at) (c .before .before .before .before .before .before .before .before .before .before .args .total) (c .before .before .before .before .before .before .before .before .before .before .pre) (too-many (c .before .before .before .before .before .before .before .before .before .before .args .us .now) (c .before .before .before .before .before .before .before .before .before .before .args .at) (c .before .before .before .before .before .before .before .before .before .before .args .total) (c .before .before .before .before .before .before .before .before .before .before .pre) (c .before .before .before .before .wide .result) (c .before .before .before .before .wide .ensures .0) (c .before .before .before .before .before .before .if2 .left) (c .before .before .if4 .taken) (c .if5 .taken))
 
--- src/open.rt:87:1
 returns-5 : tie.Need-returns-5
 returns-5 c = let w = c .before .before .before .before .before .before .before .before .before .before .pre in let l = c .before .before .if4 .taken in let m = w .whole in let s = c .before .before .before .before .before .before .before .before .before .before .args in ends-at (c .before .before .before .before .before .before .before .before .before .before .args .us .now) (c .before .before .before .before .before .before .before .before .before .before .args .at) (c .before .before .before .before .before .before .before .before .before .before .args .total) (c .before .before .before .before .before .before .before .before .before .before .pre) (c .before .before .before .before .wide .result) (c .before .before .before .before .wide .ensures .0) (c .before .before .before .before .before .before .if2 .left) (c .before .before .before .before .before .before .before .if1 .left) (omega arith) (lead-none (s .us .now) _ (s .total) (omega arith) (w .all) (c .if5 .left))
 
--- src/open.rt:87:1
 returns-6 : tie.Need-returns-6
 returns-6 c = ends-at (c .before .before .before .before .before .before .before .before .args .us .now) (c .before .before .before .before .before .before .before .before .args .at) (c .before .before .before .before .before .before .before .before .args .total) (c .before .before .before .before .before .before .before .before .pre) (c .before .before .wide .result) (c .before .before .wide .ensures .0) (c .before .before .before .before .if2 .left) (c .before .before .before .before .before .if1 .left) (c .before .if3 .left) (ap lead (packs-none (c .before .before .before .before .before .before .before .before .args .us .now) _ (c .before .before .before .before .before .before .before .before .args .total) (c .if4 .left)))
 
