@@ -131,6 +131,36 @@ def packs_5(packets):
             rest = rest[4:]
 
 
+def user_bytes(packing, system, packets):
+    """(user bytes without the fill behind them, packs), or nothing where the list does not fit."""
+    blocks = list(runs(system))
+    string = [b for p in packets for b in danc(*p)]
+    if packing == 1:
+        laid = list(packs_5(packets))
+        if 5 * len(laid) > sum(size for _, size in blocks):
+            return None
+        return [b for p in laid for b in p], len(laid)
+    if len(string) > sum(size - 3 for _, size in blocks):
+        return None
+    user, packs = [], 0
+    for _, size in blocks:
+        if not string:
+            break
+        here, string = string[: size - 3], string[size - 3 :]
+        user += [0xE3, 0xFF if string else 0xFE, 0xFF, *here, *[0xFF] * (size - 3 - len(here))]
+        packs += 1
+    return user, packs
+
+
+def spread(system, user, area):
+    """User bytes, and fill behind them, into an area."""
+    user = user + [0xFF] * sum(size for _, size in runs(system))
+    at = 0
+    for start, size in runs(system):
+        area[start : start + size] = bytes(user[at : at + size])
+        at += size
+
+
 def lay(packing, s, area):
     """(number, place, packs, bytes); the area is changed on success alone."""
     if packing not in (1, 2):
@@ -138,34 +168,15 @@ def lay(packing, s, area):
     number, place, packets = sheet_tests(s)
     if number in (2, 3):
         return number, place, 0, 0
-    system = s[1]
-    if len(area) != area_size(system):
+    if len(area) != area_size(s[1]):
         return 4, 0, 0, 0
     if number:
         return number, place, 0, 0
-    blocks = list(runs(system))
-    string = [b for p in packets for b in danc(*p)]
-    if packing == 1:
-        laid = list(packs_5(packets))
-        if 5 * len(laid) > sum(size for _, size in blocks):
-            return 12, 0, 0, 0
-        user, packs = [b for p in laid for b in p], len(laid)
-    else:
-        if len(string) > sum(size - 3 for _, size in blocks):
-            return 12, 0, 0, 0
-        user, packs, rest = [], 0, string
-        for _, size in blocks:
-            if not rest:
-                break
-            here, rest = rest[: size - 3], rest[size - 3 :]
-            user += [0xE3, 0xFF if rest else 0xFE, 0xFF, *here, *[0xFF] * (size - 3 - len(here))]
-            packs += 1
-    user += [0xFF] * (sum(size for _, size in blocks) - len(user))
-    at = 0
-    for start, size in blocks:
-        area[start : start + size] = bytes(user[at : at + size])
-        at += size
-    return 0, 0, packs, len(string)
+    fitting = user_bytes(packing, s[1], packets)
+    if fitting is None:
+        return 12, 0, 0, 0
+    spread(s[1], fitting[0], area)
+    return 0, 0, fitting[1], sum(len(w) for _, _, w in packets)
 
 
 # ---- reading

@@ -1,0 +1,374 @@
+-- What each way through the code of `laying` says of the rules, over plain values.
+--
+-- In order: fill; the frame; packing 1; packing 2; the sections of a sheet; the room (12); the tests before it.
+-- Assumes nothing.
+use Prim.Native.Nat.{ℕ, zero, suc, _+_, _-_, _*_, _/_, _≤_, _<_}
+use mathlib.Core.Path.{_≡_, refl, sym, ap, ap₂, _∙_, subst}
+use mathlib.Core.Bool.{Bool, true, false, _||_}
+use mathlib.Core.List.{List, [], _∷_, _++_, append-assoc, map}
+use native.Mathlib.Nat.{sub-zero}
+use native.Mathlib.Omega.{arith}
+use lib.Dec.{eqb}
+use lib.ListN.{length, take, drop, length-append, replicate-append-replicate}
+use lib.Seq.{take-at, drop-at, drop-drop}
+use borrow.Author.Tests.{leb-true, le-leb, lt-leb, eqb-true, eq-eqb, ne-eqb}
+use Rattle.rules.specs.Base.{sum, joined}
+use Rattle.rules.specs.Systems.{System, known, system}
+use Rattle.rules.specs.Packet.{Packet}
+use Rattle.rules.specs.Danc.{written, string, stringBytes, packetsOf}
+use Rattle.rules.specs.Sheet.{sheetOf, locations, allWords, systemIn, countIn}
+use Rattle.rules.specs.Blocks.{shift, width, runs, blockSizes, areaSize, scatter}
+use Rattle.rules.specs.Packing1.{flat, packs, packsOf}
+use Rattle.rules.specs.Packing2.{fill, longPacks, stringRoom, longCount}
+use Rattle.rules.specs.Packings.{isPacking, userBytes, laidBytes, capacity, needed, fits, packsLaid}
+use Rattle.rules.specs.Numbers.{listed, refused}
+use Rattle.rules.specs.Laying.{shaped, laying, laidOf, areaOf}
+use Rattle.rules.specs.Lister.{testedOf}
+use Rattle.rules.specs.Demands.{Tests, Asked, Lays}
+use Rattle.rules.specs.declared.Laid.{Laid}
+use Rattle.rules.specs.declared.Tested.{Tested}
+use Rattle.rules.proofs.Basics.{written-back}
+use Rattle.rules.proofs.Words.{words-room}
+use Rattle.rules.proofs.Strings.{string-room}
+use Rattle.rules.proofs.Blocks.{facts-of, scatter-front}
+use Rattle.rules.proofs.Packs.{flat-length, packs-length}
+use Rattle.rules.proofs.Users.{users-length}
+use Rattle.rules.proofs.Laying.{lays-outcome, refuses-packing, refuses-shape, refuses-system, past-system, refuses-area, refuses-list, passed-list}
+use Rattle.frame.specs.Systems.{figuresOf}
+use Rattle.frame.specs.Bytes.{areaWith}
+use Rattle.frame.specs.declared.Figures.{Figures}
+use Rattle.frame.proofs.Laws.{each-system}
+use Rattle.sheet.proofs.Laws.{rest-part}
+use Rattle.packing1.specs.Fives.{SectionsOf, LaysFives, LaysString}
+use Rattle.packing2.specs.Long.{Padded, longFits, longAfter, CountOf}
+use Rattle.vanc.specs.Lay.{LaysInto, lastTest, LaysList}
+
+-- ---- fill
+
+drop-fill : (k n : ℕ) → drop k (fill n) ≡ fill (n - k)
+drop-fill zero n = rw sub-zero
+drop-fill (suc k) zero = let e : 0 - suc k ≡ 0 = omega arith in rw e
+drop-fill (suc k) (suc n) = let e : suc n - suc k ≡ n - k = omega arith in rw e (drop-fill k n)
+
+-- what is behind k bytes of fill, in two parts
+fill-parts : (n k m : ℕ) → k ≤ m → m ≤ n → drop k (fill n) ≡ fill (m - k) ++ fill (n - m)
+fill-parts n k m h g =
+    let e : n - k ≡ m - k + (n - m) = omega arith in
+    rw (drop-fill k n, e) (sym (replicate-append-replicate (m - k) (n - m) 0xFF))
+
+-- ---- the frame
+
+-- the user bytes and the string bytes of a frame are no more than the buffers hold
+abbrev Small : System → Type 0
+Small y = (sum (blockSizes y) ≤ 9360) × (stringRoom (blockSizes y) ≤ 9000)
+
+small-of : (sys : ℕ) → Small (system sys)
+unfolding runs shift width
+small-of =
+    each-system (λ (y : System) (k : Bool). Small y)
+    (omega arith, omega arith)
+    (omega arith, omega arith)
+    (omega arith, omega arith)
+    (omega arith, omega arith)
+
+-- user bytes that begin with those of a list that fits, spread over the frame's own area
+module _ (k sys : ℕ) (ps : List Packet) (area : List ℕ) (kn : known sys ≡ true) (own : length area ≡ areaSize (system sys))
+    (f : fits k (blockSizes (system sys)) ps ≡ true) where
+  abbrev y : System
+  y = system sys
+
+  spread-laid : (us more after : List ℕ) → us ≡ laidBytes k (blockSizes y) ps ++ more → after ≡ areaWith sys us area
+      → after ≡ scatter (runs y) (laidBytes k (blockSizes y) ps) area
+  unfolding areaWith
+  spread-laid us more after e a =
+      let fs = facts-of sys kn in
+      let g : fits k (blockSizes y) (packetsOf (map written ps)) ≡ true = rw (written-back ps) f in
+      let l : length (laidBytes k (blockSizes y) ps) ≡ sum (blockSizes y) =
+      users-length y (fs .last) (blockSizes y) (fs .packs) (fs .roomy) (fs .whole) k [] (map written ps) g in
+      a ∙ rw (kn, eq-eqb (length area) (areaSize y) own, e) (scatter-front (runs y) (laidBytes k (blockSizes y) ps) more area l)
+
+-- ---- packing 1
+
+-- what fits is no more packs than the frame's
+fits1 : (sys : ℕ) (ps : List Packet) → fits 1 (blockSizes (system sys)) ps ≡ true → sum (map packsOf ps) ≤ sum (blockSizes (system sys)) / 5
+unfolding needed capacity
+fits1 sys ps f = leb-true (sum (map packsOf ps)) (sum (blockSizes (system sys)) / 5) f
+
+bytes1 : (sizes : List ℕ) (ps : List Packet)
+    → laidBytes 1 sizes ps ≡ flat (joined packs (map written ps)) ++ fill (sum sizes - 5 * sum (map packsOf ps))
+unfolding userBytes
+bytes1 sizes ps =
+    let l : length (flat (joined packs (map written ps))) ≡ 5 * sum (map packsOf ps) =
+    flat-length (joined packs (map written ps)) ∙ ap (λ (n : ℕ). 5 * n) (packs-length (map written ps) ∙ ap (λ (qs : List Packet). sum (map packsOf qs)) (written-back ps)) in
+    ap (λ (n : ℕ). flat (joined packs (map written ps)) ++ fill (sum sizes - n)) l
+
+-- the packs over fill are the list's user bytes, and fill behind them
+pub laid1 : (sys : ℕ) (ls ws us area after : List ℕ) → LaysFives ls ws (fill 9360) us → after ≡ areaWith sys us area
+    → LaysInto 1 sys ls ws area after
+laid1 sys ls ws us area after w a = record { laid = done }
+  where
+    done : (ps : List Packet) → known sys ≡ true → length area ≡ areaSize (system sys) → SectionsOf (system sys) ps ls ws
+        → fits 1 (blockSizes (system sys)) ps ≡ true
+        → after ≡ scatter (runs (system sys)) (laidBytes 1 (blockSizes (system sys)) ps) area
+    done ps kn own sec f =
+        let P : List ℕ = flat (joined packs (map written ps)) in
+        let n : ℕ = 5 * sum (map packsOf ps) in
+        let m : ℕ = sum (blockSizes (system sys)) in
+        let h = fits1 sys ps f in
+        let b = small-of sys .0 in
+        let i : n ≤ m = omega arith in
+        let e : us ≡ laidBytes 1 (blockSizes (system sys)) ps ++ fill (9360 - m) =
+        w .laid (system sys) ps sec (omega arith)
+        ∙ ap (λ (t : List ℕ). P ++ t) (fill-parts 9360 n m i b)
+        ∙ sym (append-assoc P (fill (m - n)) (fill (9360 - m)))
+        ∙ ap (λ (t : List ℕ). t ++ fill (9360 - m)) (sym (bytes1 (blockSizes (system sys)) ps)) in
+        spread-laid 1 sys ps area kn own f us (fill (9360 - m)) after e a
+
+-- ---- packing 2
+
+fits2 : (sys : ℕ) (ps : List Packet) → fits 2 (blockSizes (system sys)) ps ≡ true → stringBytes ps ≤ stringRoom (blockSizes (system sys))
+unfolding needed capacity
+fits2 sys ps f = leb-true (stringBytes ps) (stringRoom (blockSizes (system sys))) f
+
+bytes2 : (sizes : List ℕ) (ps : List Packet) → laidBytes 2 sizes ps ≡ longPacks sizes [] (string (map written ps))
+unfolding userBytes
+bytes2 sizes ps = refl
+
+-- the string over fill is padded, and its packs are the list's user bytes
+pub laid2 : (sys : ℕ) (ls ws s us area after : List ℕ) → LaysString ls ws (fill 9000) s
+    → (Padded (length ws) s → us ≡ longAfter sys (length ws) s (fill 9360)) → after ≡ areaWith sys us area → LaysInto 2 sys ls ws area after
+unfolding longAfter longFits
+laid2 sys ls ws s us area after w v a = record { laid = done }
+  where
+    done : (ps : List Packet) → known sys ≡ true → length area ≡ areaSize (system sys) → SectionsOf (system sys) ps ls ws
+        → fits 2 (blockSizes (system sys)) ps ≡ true
+        → after ≡ scatter (runs (system sys)) (laidBytes 2 (blockSizes (system sys)) ps) area
+    done ps kn own sec f =
+        let sizes : List ℕ = blockSizes (system sys) in
+        let h = fits2 sys ps f in
+        let b = small-of sys .1 in
+        let l : length ws ≡ stringBytes ps = ap length (sec .sectionC) ∙ words-room ps in
+        let m : length (string (map written ps)) ≡ length ws = string-room (map written ps) ∙ ap stringBytes (written-back ps) ∙ sym l in
+        let e : s ≡ string (map written ps) ++ fill (9000 - length ws) =
+        w .laid (system sys) ps sec (omega arith)
+        ∙ ap (λ (n : ℕ). string (map written ps) ++ drop n (fill 9000)) (sym l)
+        ∙ ap (λ (t : List ℕ). string (map written ps) ++ t) (drop-fill (length ws) 9000) in
+        let p : Padded (length ws) s = ap (drop (length ws)) e ∙ drop-at (string (map written ps)) (fill (9000 - length ws)) (length ws) m in
+        let t : take (length ws) s ≡ string (map written ps) =
+        ap (take (length ws)) e ∙ take-at (string (map written ps)) (fill (9000 - length ws)) (length ws) m in
+        let u : us ≡ laidBytes 2 sizes ps ++ drop (sum sizes) (fill 9360) =
+        v p ∙ rw (kn, le-leb (length ws) (stringRoom sizes) (omega arith), t, bytes2 sizes ps) in
+        spread-laid 2 sys ps area kn own f us (drop (sum sizes) (fill 9360)) after u a
+
+-- ---- the sections of a sheet
+
+locations-length : (ps : List Packet) → length (locations ps) ≡ 2 * length ps
+locations-length [] = refl
+locations-length (p ∷ ps) = let k = locations-length ps in omega arith
+
+module _ (sys : ℕ) (ps : List Packet) where
+  behind : drop 3 (sheetOf sys ps) ≡ locations ps ++ length (allWords ps) ∷ allWords ps
+  unfolding sheetOf
+  behind = refl
+
+  count-back : countIn (sheetOf sys ps) ≡ length ps
+  unfolding sheetOf
+  count-back = refl
+
+  -- what is lent as locations and as words
+  locations-lent : take (3 + 2 * length ps - 3) (drop 3 (sheetOf sys ps)) ≡ locations ps
+  locations-lent =
+      let e : 3 + 2 * length ps - 3 ≡ 2 * length ps = omega arith in
+      rw (e, behind) (take-at (locations ps) (length (allWords ps) ∷ allWords ps) (2 * length ps) (locations-length ps))
+
+  words-lent : drop (3 + 2 * length ps + 1) (sheetOf sys ps) ≡ allWords ps
+  words-lent =
+      let n : 3 + 2 * length ps + 1 ≡ 3 + suc (2 * length ps) = omega arith in
+      let l = locations-length ps in
+      let a : List ℕ = locations ps ++ (length (allWords ps) ∷ []) in
+      let m : length a ≡ suc (2 * length ps) = length-append (locations ps) (length (allWords ps) ∷ []) ∙ (omega arith) in
+      rw (n, ← drop-drop (suc (2 * length ps)) 3 (sheetOf sys ps), behind, ← append-assoc (locations ps) (length (allWords ps) ∷ []) (allWords ps))
+      (drop-at a (allWords ps) (suc (2 * length ps)) m)
+
+-- what is lent of a sheet with p locations
+abbrev pub lentB : ℕ → List ℕ → List ℕ
+lentB p s = take (3 + 2 * p - 3) (drop 3 s)
+
+abbrev pub lentC : ℕ → List ℕ → List ℕ
+lentC p s = take (length s - (3 + 2 * p + 1)) (drop (3 + 2 * p + 1) s)
+
+-- they are the sections of the sheet that is asked for
+module _ (k sys : ℕ) (ps : List Packet) (s area : List ℕ) (a : Asked k sys ps s area) (p : ℕ) (is : p ≡ countIn s) where
+  counts : p ≡ length ps
+  counts = is ∙ ap countIn (a .sheet .whole) ∙ count-back sys ps
+
+  sections : SectionsOf (system sys) ps (lentB p s) (lentC p s)
+  sections =
+      record {
+        last = facts-of sys (a .sheet .known) .last;
+        sound = a .sheet .sound;
+        sectionB = ap₂ (λ (n : ℕ) (t : List ℕ). take (3 + 2 * n - 3) (drop 3 t)) counts (a .sheet .whole) ∙ locations-lent sys ps;
+        sectionC =
+            rest-part (3 + 2 * p + 1) s
+            ∙ ap₂ (λ (n : ℕ) (t : List ℕ). drop (3 + 2 * n + 1) t) counts (a .sheet .whole)
+            ∙ words-lent sys ps;
+      }
+
+-- ---- the room
+
+-- the figures that the code compares, for a list that passed the tests before
+module _ (sys : ℕ) (ps : List Packet) (t : Tested) (e : t ≡ testedOf sys (listed ps)) (g : Figures) (x : g ≡ figuresOf (t .system)) where
+  its : t .system ≡ sys
+  its = ap (λ (v : Tested). v .system) e
+
+  room1 : (g .packs ≡ capacity 1 (blockSizes (system sys))) × (t .packs ≡ needed 1 ps)
+  unfolding figuresOf needed
+  room1 = (ap (λ (h : Figures). h .packs) (x ∙ ap figuresOf its), ap (λ (v : Tested). v .packs) e)
+
+  room2 : (g .«string_bytes» ≡ capacity 2 (blockSizes (system sys))) × (t .bytes ≡ needed 2 ps)
+  unfolding figuresOf needed
+  room2 = (ap (λ (h : Figures). h .«string_bytes») (x ∙ ap figuresOf its), ap (λ (v : Tested). v .bytes) e)
+
+abbrev success : ℕ → ℕ → Laid
+success n bytes = record { number = 0; place = 0; packs = n; bytes = bytes }
+
+abbrev Given : ℕ → ℕ → List Packet → List ℕ → Laid → List ℕ → Type 0
+Given k sys ps area r after =
+    (r ≡ laidOf k (system sys) (lastTest k sys ps)) × (after ≡ areaOf k (system sys) area (lastTest k sys ps))
+
+-- a list over the room, and one within it
+too-full : (k sys : ℕ) (ps : List Packet) (area : List ℕ) (r : Laid) → capacity k (blockSizes (system sys)) < needed k ps
+    → r ≡ laidOf 1 (system 1) (refused 12 0) → Given k sys ps area r area
+too-full k sys ps area r h q = rw (lt-leb (needed k ps) (capacity k (blockSizes (system sys))) h) (q, refl)
+
+within-room : (k sys : ℕ) (ps : List Packet) (area : List ℕ) (r : Laid) (after : List ℕ) → fits k (blockSizes (system sys)) ps ≡ true
+    → r ≡ laidOf k (system sys) (listed ps) → after ≡ areaOf k (system sys) area (listed ps) → Given k sys ps area r after
+within-room k sys ps area r after f q a = rw f (q, a)
+
+-- packing 1
+module _ (k : ℕ) (t : Tested) (s area : List ℕ) (one : k ≡ 1) (g : Figures) (x : g ≡ figuresOf (t .system)) where
+  pub full1 : (r : Laid) → g .packs < t .packs → r ≡ laidOf 1 (system 1) (refused 12 0) → LaysList k t s area r area
+  full1 r h q =
+      record {
+        laid =
+            λ sys ps a e.
+            let w = room1 sys ps t e g x in
+            subst (λ (j : ℕ). Given j sys ps area r area) (sym one) (too-full 1 sys ps area r (omega arith) q);
+      }
+
+  pub done1 : (p : ℕ) → p ≡ countIn s → (after : List ℕ) → t .packs ≤ g .packs
+      → LaysInto 1 (t .system) (lentB p s) (lentC p s) area after
+      → LaysList k t s area (success (t .packs) (t .bytes)) after
+  unfolding packsLaid
+  done1 p is after h v =
+      record {
+        laid =
+            λ sys ps a e.
+            let w = room1 sys ps t e g x in
+            let f : fits 1 (blockSizes (system sys)) ps ≡ true = le-leb (needed 1 ps) (capacity 1 (blockSizes (system sys))) (omega arith) in
+            let u = subst (λ (n : ℕ). LaysInto 1 n (lentB p s) (lentC p s) area after) (its sys ps t e g x) v in
+            subst (λ (j : ℕ). Given j sys ps area (success (t .packs) (t .bytes)) after) (sym one)
+            (within-room 1 sys ps area (success (t .packs) (t .bytes)) after f
+            (ap (λ (z : Tested). success (z .packs) (z .bytes)) e)
+            (u .laid ps (a .sheet .known) (a .own) (sections k sys ps s area a p is) f));
+      }
+
+-- packing 2
+two : (k : ℕ) → isPacking k ≡ true → (k ≡ 1 → ⊥) → k ≡ 2
+unfolding isPacking
+two k e n = eqb-true k 2 (ap (λ (b : Bool). b || eqb k 2) (sym (ne-eqb k 1 n)) ∙ e)
+
+module _ (k : ℕ) (t : Tested) (s area : List ℕ) (other : k ≡ 1 → ⊥) (g : Figures) (x : g ≡ figuresOf (t .system)) where
+  pub full2 : (r : Laid) → g .«string_bytes» < t .bytes → r ≡ laidOf 1 (system 1) (refused 12 0) → LaysList k t s area r area
+  full2 r h q =
+      record {
+        laid =
+            λ sys ps a e.
+            let w = room2 sys ps t e g x in
+            subst (λ (j : ℕ). Given j sys ps area r area) (sym (two k (a .packing) other)) (too-full 2 sys ps area r (omega arith) q);
+      }
+
+  pub done2 : (p : ℕ) → p ≡ countIn s → (after : List ℕ) (n : ℕ) → t .bytes ≤ g .«string_bytes»
+      → LaysInto 2 (t .system) (lentB p s) (lentC p s) area after
+      → CountOf (t .bytes) n → LaysList k t s area (success n (t .bytes)) after
+  unfolding packsLaid needed capacity
+  done2 p is after n h v c =
+      record {
+        laid =
+            λ sys ps a e.
+            let w = room2 sys ps t e g x in
+            let f : fits 2 (blockSizes (system sys)) ps ≡ true = le-leb (needed 2 ps) (capacity 2 (blockSizes (system sys))) (omega arith) in
+            let u = subst (λ (m : ℕ). LaysInto 2 m (lentB p s) (lentC p s) area after) (its sys ps t e g x) v in
+            let m : n ≡ packsLaid 2 (blockSizes (system sys)) ps =
+            c sys (a .sheet .known) (omega arith) ∙ ap (longCount (blockSizes (system sys))) (w .1) in
+            subst (λ (j : ℕ). Given j sys ps area (success n (t .bytes)) after) (sym (two k (a .packing) other))
+            (within-room 2 sys ps area (success n (t .bytes)) after f
+            (ap₂ success m (w .1))
+            (u .laid ps (a .sheet .known) (a .own) (sections k sys ps s area a p is) f));
+      }
+
+-- ---- the tests before it
+
+pub packing-1 : (k : ℕ) → k ≡ 1 → isPacking k ≡ true
+unfolding isPacking
+packing-1 k e = rw (eq-eqb k 1 e)
+
+pub packing-2 : (k : ℕ) → (k ≡ 1 → ⊥) → k ≡ 2 → isPacking k ≡ true
+unfolding isPacking
+packing-2 k n e = rw (ne-eqb k 1 n, eq-eqb k 2 e)
+
+module _ (k : ℕ) (s area : List ℕ) where
+  -- 1
+  pub no-packing : (r : Laid) → (k ≡ 1 → ⊥) → (k ≡ 2 → ⊥) → r ≡ laidOf 1 (system 1) (refused 1 0) → Lays k s area r area
+  unfolding isPacking
+  no-packing r a b q =
+      let e : isPacking k ≡ false = rw (ne-eqb k 1 a, ne-eqb k 2 b) in
+      lays-outcome k s area r area (refused 1 0) (refuses-packing k s area e) (q, refl)
+
+  module _ (pk : isPacking k ≡ true) (t : Tested) (w : Tests s t) where
+    -- 2 and 3
+    pub no-shape : (r : Laid) → t .number ≡ 2 → r ≡ laidOf 1 (system 1) (refused (t .number) 0) → Lays k s area r area
+    no-shape r n q =
+        lays-outcome k s area r area (refused (t .number) 0) (refuses-shape k s area pk t w n ∙ ap (λ (m : ℕ). refused m 0) (sym n)) (q, refl)
+
+    pub no-system : (r : Laid) → t .number ≡ 3 → r ≡ laidOf 1 (system 1) (refused (t .number) 0) → Lays k s area r area
+    no-system r n q =
+        lays-outcome k s area r area (refused (t .number) 0) (refuses-system k s area pk t w n ∙ ap (λ (m : ℕ). refused m 0) (sym n)) (q, refl)
+
+    module _ (n2 : t .number ≡ 2 → ⊥) (n3 : t .number ≡ 3 → ⊥) where
+      pub is-shaped : shaped s ≡ true
+      is-shaped = past-system k s area pk t w n2 n3 .0
+
+-- what is known past these, where the figures are the system's
+pub record Past (k : ℕ) (s : List ℕ) (t : Tested) (g : Figures) : Type 0 where
+  packing : isPacking k ≡ true
+  tests : Tests s t
+  two : t .number ≡ 2 → ⊥
+  three : t .number ≡ 3 → ⊥
+  area : g .area ≡ areaSize (system (systemIn s))
+
+pub past-three : (k : ℕ) (s : List ℕ) (t : Tested) (g : Figures) (x : ℕ) → isPacking k ≡ true → Tests s t → (t .number ≡ 2 → ⊥)
+    → (t .number ≡ 3 → ⊥) → x ≡ systemIn s → g ≡ figuresOf x → Past k s t g
+unfolding figuresOf
+past-three k s t g x pk w n2 n3 is gx =
+    record { packing = pk; tests = w; two = n2; three = n3; area = ap (λ (h : Figures). h .area) (gx ∙ ap figuresOf is) }
+
+module _ (k : ℕ) (s area : List ℕ) (t : Tested) (g : Figures) (p : Past k s t g) where
+  -- 4
+  pub no-area : (r : Laid) → (length area ≡ g .area → ⊥) → r ≡ laidOf 1 (system 1) (refused 4 0) → Lays k s area r area
+  no-area r l q =
+      let e = refuses-area k s area (p .packing) t (p .tests) (p .two) (p .three) (λ e. l (e ∙ sym (p .area))) in
+      lays-outcome k s area r area (refused 4 0) e (q, refl)
+
+  module _ (l : length area ≡ g .area) where
+    -- 5 to 11
+    pub no-list : (r : Laid) → (t .number ≡ 0 → ⊥) → r ≡ laidOf 1 (system 1) (refused (t .number) (t .place)) → Lays k s area r area
+    no-list r n q =
+        let e = refuses-list k s area (p .packing) t (p .tests) (p .two) (p .three) (l ∙ p .area) n in
+        lays-outcome k s area r area (refused (t .number) (t .place)) e (q, refl)
+
+    -- 12, and success
+    pub the-list : (r : Laid) (after : List ℕ) → t .number ≡ 0 → LaysList k t s area r after → Lays k s area r after
+    the-list r after n v =
+        let o = passed-list k s area (p .packing) t (p .tests) (p .two) (p .three) (l ∙ p .area) n in
+        lays-outcome k s area r after (lastTest k (systemIn s) (o .0)) (o .3) (v .laid (systemIn s) (o .0) (o .1) (o .2))

@@ -1,0 +1,3 @@
+-- What the proofs of this crate rest on, over plain values.
+pub mod LayLaws
+pub mod ReadLaws

@@ -1,0 +1,427 @@
+-- What each way through the code of reading says of the rules, over plain values.
+--
+-- In order: 17; rows of packets; the number of an outcome; packs of 5; long packs; the first user byte; the area.
+-- Assumes nothing.
+use Prim.Native.Nat.{ℕ, zero, suc, _+_, _-_, _/_, _%_, _≤_, _<_}
+use mathlib.Core.Path.{_≡_, refl, sym, ap, _∙_}
+use mathlib.Core.Bool.{Bool, true, false, cond, _&&_, _||_}
+use mathlib.Core.List.{List, [], _∷_, _++_}
+use native.Mathlib.Nat.{sub-zero}
+use native.Mathlib.Omega.{arith}
+use lib.Dec.{eqb, leb}
+use lib.ListN.{length, getD, take, drop, length-append, length-take}
+use lib.Seq.{length-take-le, take-take, take-at}
+use borrow.Author.Tests.{eqb-true, le-leb, eq-eqb, ne-eqb}
+use Rattle.rules.specs.Base.{allIs, sum, Bytes}
+use Rattle.rules.specs.Systems.{System, known, system}
+use Rattle.rules.specs.Packet.{Packet}
+use Rattle.rules.specs.Danc.{stringBytes, string}
+use Rattle.rules.specs.Sheet.{limit, sheetOf}
+use Rattle.rules.specs.Blocks.{runs, blockSizes, areaSize, userBytesIn}
+use Rattle.rules.specs.Packing1.{fives}
+use Rattle.rules.specs.Packing2.{Opened, opened}
+use Rattle.rules.specs.Numbers.{Outcome, listed, refused, unless, also, Row, packetsIn}
+use Rattle.rules.specs.Reading.{stringRow, packRow, inOrder, firstByte, packetsOfOpened, packetsOfUserBytes, packingFound, reading, readBackOf, read, bufferAfter}
+use Rattle.rules.specs.Demands.{Reads}
+use Rattle.rules.specs.declared.ReadBack.{ReadBack}
+use Rattle.rules.proofs.Basics.{never, take-bytes}
+use Rattle.rules.proofs.Sheets.{sheet-length}
+use Rattle.rules.proofs.Strings.{StringOf, string-laid, string-room}
+use Rattle.rules.proofs.Blocks.{gather-length, facts-of}
+use Rattle.rules.proofs.Reading.{reads}
+use Rattle.frame.specs.Bytes.{collected, bytesAfter}
+use Rattle.frame.specs.Systems.{figuresOf}
+use Rattle.frame.specs.declared.Figures.{Figures}
+use Rattle.frame.proofs.Laws.{each-system, unknown-figures, known-figures}
+use Rattle.sheet.specs.Write.{shown, wrote, sheetAfter}
+use Rattle.sheet.proofs.WriteLaws.{shown-string}
+use Rattle.danc.specs.Validated.{codeOf as validCode, validated, Within}
+use Rattle.packing1.specs.Open.{codeOf, Opens, packetsOfFives}
+use Rattle.packing2.specs.Unlong.{openedFrom}
+use Rattle.packing2.proofs.UnlongLaws.{Answer, answer-none, answer-some}
+use Rattle.vanc.specs.Read.{Back, Coded}
+
+-- ---- 17
+
+module _ (sys k : ℕ) (ps : List Packet) (s sheet after : List ℕ) (n : ℕ) (e : shown s ≡ listed ps) (h : length s ≤ 9360)
+    (w : n ≡ wrote sys s (length sheet)) (a : after ≡ sheetAfter sys s sheet) where
+  abbrev roomy : Bool
+  roomy = leb (length (sheetOf sys ps)) (length sheet)
+
+  abbrev whole : List ℕ
+  whole = sheetOf sys ps ++ drop (length (sheetOf sys ps)) sheet
+
+  number-is : n ≡ cond roomy (length (sheetOf sys ps)) 0
+  unfolding wrote
+  number-is = w ∙ rw (e, le-leb (length s) 65535 (omega arith))
+
+  after-is : after ≡ cond roomy whole sheet
+  unfolding sheetAfter
+  after-is = a ∙ rw (e, le-leb (length s) 65535 (omega arith))
+
+  -- nothing is written: every sheet has numbers, so there is no room for it
+  pub no-room : n ≡ 0 → (r : ReadBack) → r ≡ readBackOf 0 0 (refused 17 0) → Back sys k sheet (listed ps) r after
+  no-room z r q = go roomy refl number-is after-is
+    where
+      go : (t : Bool) → roomy ≡ t → n ≡ cond t (length (sheetOf sys ps)) 0 → after ≡ cond t whole sheet → Back sys k sheet (listed ps) r after
+      go true p m b = let l = sheet-length sys ps in absurd (omega arith)
+      go false p m b = record { answer = q ∙ rw p; buffer = b ∙ rw p }
+
+  -- the sheet is written
+  pub all-room : (n ≡ 0 → ⊥) → (packets : ℕ) → packets ≡ length ps
+      → Back sys k sheet (listed ps) (record { number = 0; place = 0; packing = k; packets = packets; numbers = n }) after
+  all-room z packets q = go roomy refl number-is after-is
+    where
+      go : (t : Bool) → roomy ≡ t → n ≡ cond t (length (sheetOf sys ps)) 0 → after ≡ cond t whole sheet
+          → Back sys k sheet (listed ps) (record { number = 0; place = 0; packing = k; packets = packets; numbers = n }) after
+      go true p m b = record { answer = rw (q, m, p); buffer = b ∙ rw p }
+      go false p m b = absurd (z m)
+
+-- a refusal
+pub back-refused : (sys k : ℕ) (sheet : List ℕ) (o : Outcome) (n i : ℕ) (r : ReadBack) → o ≡ refused n i → r ≡ readBackOf 0 0 (refused n i)
+    → Back sys k sheet o r sheet
+back-refused sys k sheet o n i r e q = record { answer = q ∙ rw e; buffer = rw e }
+
+-- another name of the same outcome and packing
+pub back-of : {sys k j : ℕ} {sheet : List ℕ} {o q : Outcome} {r : ReadBack} {after : List ℕ} → j ≡ k → q ≡ o → Back sys k sheet o r after → Back sys j sheet q r after
+back-of e f w = record { answer = w .answer ∙ rw (e, f); buffer = w .buffer ∙ rw f }
+
+-- ---- rows of packets
+
+module _ {A : Type 0} (row : Row A) where
+  -- no more packets than there may be
+  row-few : (left i : ℕ) (s : List A) (ps : List Packet) → packetsIn row left i s ≡ listed ps → length ps ≤ left
+  row-few zero i s ps e = go (row .ends s) e
+    where
+      go : (d : Bool) → cond d (listed []) (refused 5 i) ≡ listed ps → length ps ≤ 0
+      go true e = let z : [] ≡ ps = cc in let l : 0 ≡ length ps = ap length z in omega arith
+      go false e = never (cc)
+  row-few (suc left) i s ps e = go (row .ends s) (eqb (row .fault s) 0) (packetsIn row left (suc i) (row .rest s)) (row-few left (suc i) (row .rest s)) e
+    where
+      none : [] ≡ ps → length ps ≤ suc left
+      none z = let l : 0 ≡ length ps = ap length z in omega arith
+
+      go : (d f : Bool) (o : Outcome) → ((qs : List Packet) → o ≡ listed qs → length qs ≤ left)
+          → cond d (listed []) (cond f (also (row .packet s) o) (refused (row .fault s) i)) ≡ listed ps → length ps ≤ suc left
+      go true f o later e = none (cc)
+      go false true (refused n j) later e = never (cc)
+      go false true (listed qs) later e =
+          let z : row .packet s ∷ qs ≡ ps = cc in
+          let l : suc (length qs) ≡ length ps = ap length z in
+          let k = later qs refl in
+          omega arith
+      go false false o later e = never (cc)
+
+  -- nor a refusal past them
+  row-place : (left i : ℕ) (s : List A) (n k : ℕ) → packetsIn row left i s ≡ refused n k → k ≤ i + left
+  row-place zero i s n k e = go (row .ends s) e
+    where
+      go : (d : Bool) → cond d (listed []) (refused 5 i) ≡ refused n k → k ≤ i + 0
+      go true e = never (cc)
+      go false e = let z : i ≡ k = cc in omega arith
+  row-place (suc left) i s n k e = go (row .ends s) (eqb (row .fault s) 0) (packetsIn row left (suc i) (row .rest s)) (row-place left (suc i) (row .rest s)) e
+    where
+      go : (d f : Bool) (o : Outcome) → ((m j : ℕ) → o ≡ refused m j → j ≤ suc i + left)
+          → cond d (listed []) (cond f (also (row .packet s) o) (refused (row .fault s) i)) ≡ refused n k → k ≤ i + suc left
+      go true f o later e = never (cc)
+      go false true (refused m j) later e = let l = later n k e in omega arith
+      go false true (listed qs) later e = never (cc)
+      go false false o later e = let z : i ≡ k = cc in omega arith
+
+-- ---- the number of an outcome
+
+module _ (code : ℕ) (us : List ℕ) where
+  pub code-refused : (o : Outcome) → Coded o code us → 1073741824 ≤ code → o ≡ refused ((code - 1073741824) / 1024) ((code - 1073741824) % 1024)
+  code-refused (listed ps) w h =
+      let a = w .answer in
+      let f = w .few ps refl in
+      let s = w .short ps refl in
+      absurd (omega arith)
+  code-refused (refused n i) w h =
+      let a = w .answer in
+      let p = w .place n i refl in
+      let x : (code - 1073741824) / 1024 ≡ n = omega arith in
+      let y : (code - 1073741824) % 1024 ≡ i = omega arith in
+      rw (x, y)
+
+  pub code-listed : (o : Outcome) → Coded o code us → code < 1073741824
+      → (ps : List Packet) × (o ≡ listed ps) × (code % 1024 ≡ length ps) × (shown (take (code / 1024) us) ≡ listed ps) × (code / 1024 ≤ 9360)
+  code-listed (refused n i) w h = let a = w .answer in absurd (omega arith)
+  code-listed (listed ps) w h =
+      let a = w .answer in
+      let f = w .few ps refl in
+      let s = w .short ps refl in
+      let x : code / 1024 ≡ stringBytes ps = omega arith in
+      (ps, refl, omega arith, rw x (w .string ps refl), omega arith)
+
+-- a number's list
+pub back-listed : (sys k : ℕ) (sheet : List ℕ) (o : Outcome) (code : ℕ) (us : List ℕ) (r : ReadBack) (after : List ℕ) → Coded o code us → code < 1073741824
+    → ((ps : List Packet) → shown (take (code / 1024) us) ≡ listed ps → code % 1024 ≡ length ps → Back sys k sheet (listed ps) r after)
+    → Back sys k sheet o r after
+back-listed sys k sheet o code us r after w h made = let v = code-listed code us o w h in back-of refl (v .1) (made (v .0) (v .3) (v .2))
+
+-- the string's end is a place of the bytes
+pub code-fits : (o : Outcome) (code : ℕ) (us : List ℕ) → Coded o code us → code < 1073741824 → code / 1024 ≤ 9360
+code-fits o code us w h = code-listed code us o w h .4
+
+-- ---- packs of 5
+
+limit-is : limit ≡ 512
+unfolding limit
+limit-is = refl
+
+module _ (y : System) (us : List ℕ) (total : ℕ) where
+  abbrev row5 : Outcome
+  row5 = packetsIn (packRow y) limit 0 (fives (take total us))
+
+  fives-place : (n i : ℕ) → packetsOfFives y us total ≡ refused n i → i < 1024
+  unfolding packetsOfFives
+  fives-place n i e = go (leb total (length us) && eqb (total % 5) 0) (inOrder false (fives (take total us))) e
+    where
+      go : (a b : Bool) → unless 13 a (unless 13 b row5) ≡ refused n i → i < 1024
+      go false b e = let z : 0 ≡ i = cc in omega arith
+      go true false e = let z : 0 ≡ i = cc in omega arith
+      go true true e = let l = row-place (packRow y) limit 0 (fives (take total us)) n i e in let m = limit-is in omega arith
+
+  fives-few : (ps : List Packet) → packetsOfFives y us total ≡ listed ps → length ps < 1024
+  unfolding packetsOfFives
+  fives-few ps e = go (leb total (length us) && eqb (total % 5) 0) (inOrder false (fives (take total us))) e
+    where
+      go : (a b : Bool) → unless 13 a (unless 13 b row5) ≡ listed ps → length ps < 1024
+      go false b e = never (cc)
+      go true false e = never (cc)
+      go true true e = let l = row-few (packRow y) limit 0 (fives (take total us)) ps e in let m = limit-is in omega arith
+
+  -- what opening leaves
+  pub fives-coded : y .last < 2047 → (code : ℕ) (after : List ℕ) → length after ≡ 9360 → Opens y (packetsOfFives y us total) code after
+      → Coded (packetsOfFives y us total) code after
+  fives-coded hm code after long w =
+      record {
+        answer = w .answer;
+        place = fives-place;
+        few = fives-few;
+        short = λ ps e.
+            let v = w .string ps e in
+            let l : length (take (stringBytes ps) after) ≡ stringBytes ps = ap length (v .front) ∙ string-room (v .items) ∙ ap stringBytes (v .packets) in
+            let m : length (take (stringBytes ps) after) ≤ length after = simp length-take (omega arith) in
+            omega arith;
+        string = λ ps e.
+            let v = w .string ps e in
+            ap shown (v .front) ∙ shown-string y hm (v .items) (v .good) ∙ ap listed (v .packets);
+      }
+
+-- ---- long packs
+
+-- a string's number, taken from its front, is the outcome's
+valid-code : (o : Outcome) → validCode 0 0 o ≡ codeOf o
+valid-code (listed ps) = omega arith
+valid-code (refused n i) = refl
+
+module _ (y : System) (hm : y .last < 2047) (us : List ℕ) (len room code : ℕ) (b : Bytes us) (most : len ≤ 8928) (long : length us ≡ 9360) (v : code ≡ validated y room (take len us) 0 0) where
+  abbrev walked : Outcome
+  walked = packetsIn (stringRow y room) limit 0 (take len us)
+
+  module _ (ps : List Packet) (e : walked ≡ listed ps) where
+    laid : StringOf y room limit (take len us) ps
+    laid = string-laid y room limit 0 (take len us) ps (take-bytes len us b) e
+
+    laid-bytes : length (string (laid .items)) ≡ stringBytes ps
+    laid-bytes = string-room (laid .items) ∙ ap stringBytes (laid .packets)
+
+    laid-short : stringBytes ps ≤ len
+    laid-short =
+        let l : length (take len us) ≡ len = length-take-le len us (omega arith) in
+        let m = ap length (laid .whole) in
+        let n = length-append (string (laid .items)) (laid .tail) in
+        let k = laid-bytes in
+        omega arith
+
+    laid-front : take (stringBytes ps) us ≡ string (laid .items)
+    laid-front =
+        sym (take-take (stringBytes ps) len us laid-short)
+        ∙ ap (take (stringBytes ps)) (laid .whole)
+        ∙ take-at (string (laid .items)) (laid .tail) (stringBytes ps) laid-bytes
+
+  pub long-coded : Coded walked code us
+  unfolding validated
+  long-coded =
+      record {
+        answer = v ∙ ap (λ (n : ℕ). validCode 0 0 (packetsIn (stringRow y room) n 0 (take len us))) (sub-zero limit) ∙ valid-code walked;
+        place = λ n i e. let l = row-place (stringRow y room) limit 0 (take len us) n i e in let m = limit-is in omega arith;
+        few = λ ps e. let l = row-few (stringRow y room) limit 0 (take len us) ps e in let m = limit-is in omega arith;
+        short = λ ps e. let l = laid-short ps e in omega arith;
+        string = λ ps e. ap shown (laid-front ps e) ∙ shown-string y hm (laid ps e .items) (laid ps e .good) ∙ ap listed (laid ps e .packets);
+      }
+
+-- the number that opening gives: nothing opened
+pub long-shut : (y : System) (o : Opened) (r : ℕ) (us : List ℕ) → Answer o r us → r ≡ 0 → packetsOfOpened y o ≡ refused 13 0
+long-shut y o r us w z = ap (packetsOfOpened y) (answer-none o r us w z)
+
+-- or a string
+pub long-open : (y : System) (o : Opened) (r : ℕ) (us : List ℕ) → Answer o r us → (r ≡ 0 → ⊥)
+    → packetsOfOpened y o ≡ packetsIn (stringRow y (r % 128)) limit 0 (take (r / 128) us)
+long-open y o r us w z = ap (packetsOfOpened y) (answer-some o r us w z .0)
+
+pub long-len : (o : Opened) (r : ℕ) (us : List ℕ) → Answer o r us → (r ≡ 0 → ⊥) → r / 128 ≤ 8928
+long-len o r us w z = answer-some o r us w z .1
+
+-- the bounds of validation
+pub long-within : (us : List ℕ) (len : ℕ) → len ≤ 8928 → Within (take len us) 0 0
+unfolding limit
+long-within us len h =
+    let l : length (take len us) ≤ len = simp length-take (omega arith) in
+    record { short = omega arith; place = omega arith; packet = omega arith }
+
+-- ---- the first user byte
+
+-- what is used of a known system
+pub record Frame (sys : ℕ) : Type 0 where
+  pub low : sys ≤ 3
+  pub last : system sys .last < 2047
+  pub some : 0 < sum (blockSizes (system sys))
+  pub most : sum (blockSizes (system sys)) ≤ 9360
+  pub fifths : sum (blockSizes (system sys)) % 5 ≡ 0
+
+known-low : (sys : ℕ) → known sys ≡ true → sys ≤ 3
+unfolding known
+known-low sys e = go (eqb sys 1) refl (eqb sys 2) refl (eqb sys 3) refl e
+  where
+    go : (a : Bool) → eqb sys 1 ≡ a → (b : Bool) → eqb sys 2 ≡ b → (c : Bool) → eqb sys 3 ≡ c → (a || (b || c)) ≡ true → sys ≤ 3
+    go true p b q c r e = let z = eqb-true sys 1 p in omega arith
+    go false p true q c r e = let z = eqb-true sys 2 q in omega arith
+    go false p false q true r e = let z = eqb-true sys 3 r in omega arith
+    go false p false q false r e = never (cc)
+
+bytes-known : (sys : ℕ) → known sys ≡ true → (0 < sum (blockSizes (system sys))) × (sum (blockSizes (system sys)) ≤ 9360)
+unfolding runs Rattle.rules.specs.Blocks.width
+bytes-known =
+    each-system (λ (y : System) (k : Bool). k ≡ true → (0 < sum (blockSizes y)) × (sum (blockSizes y) ≤ 9360))
+    (λ e. (omega arith, omega arith))
+    (λ e. (omega arith, omega arith))
+    (λ e. (omega arith, omega arith))
+    (λ e. never (cc))
+
+pub frame-of : (sys : ℕ) → known sys ≡ true → Frame sys
+frame-of sys k =
+    let f = facts-of sys k in
+    let b = bytes-known sys k in
+    let w = f .whole in
+    record { low = known-low sys k; last = f .last; some = b .0; most = b .1; fifths = omega arith }
+
+first-is : (us : List ℕ) (total : ℕ) → 0 < total → 0 < length us → firstByte (take total us) ≡ getD us 0 0
+first-is [] total h l = absurd (omega arith)
+first-is (x ∷ us) zero h l = absurd (omega arith)
+first-is (x ∷ us) (suc total) h l = refl
+
+module _ (sys total : ℕ) (us : List ℕ) (known : known sys ≡ true) (is : total ≡ sum (blockSizes (system sys))) (long : length us ≡ 9360) where
+  abbrev y : System
+  y = system sys
+
+  abbrev sizes : List ℕ
+  sizes = blockSizes y
+
+  abbrev ub : List ℕ
+  ub = take total us
+
+  f : Frame sys
+  f = frame-of sys known
+
+  first : firstByte ub ≡ getD us 0 0
+  first = let s = f .some in first-is us total (omega arith) (omega arith)
+
+  here : (b : ℕ) → getD us 0 0 ≡ b → firstByte ub ≡ b
+  here b e = first ∙ e
+
+  -- E1h
+  pub users-fives : getD us 0 0 ≡ 0xE1 → (packingFound ub ≡ 1) × (packetsOfUserBytes y sizes ub ≡ packetsOfFives y us total)
+  unfolding packetsOfUserBytes packetsOfFives
+  users-fives e =
+      let m = f .most in
+      let v = f .fifths in
+      let z : total % 5 ≡ 0 = omega arith in
+      (rw (here 0xE1 e), rw (here 0xE1 e, le-leb total (length us) (omega arith), eq-eqb (total % 5) 0 z))
+
+  -- E3h
+  pub users-long : getD us 0 0 ≡ 0xE3 → (packingFound ub ≡ 2) × (packetsOfUserBytes y sizes ub ≡ packetsOfOpened y (openedFrom sys us))
+  unfolding packetsOfUserBytes
+  users-long e = (rw (here 0xE3 e), rw (here 0xE3 e, is))
+
+  -- FFh, and so is every other
+  pub users-fill : getD us 0 0 ≡ 0xFF → allIs 0xFF ub ≡ true → (packingFound ub ≡ 0) × (packetsOfUserBytes y sizes ub ≡ listed [])
+  unfolding packetsOfUserBytes
+  users-fill e a = (rw (here 0xFF e), rw (here 0xFF e, a))
+
+  -- FFh, and another is not
+  pub users-mixed : getD us 0 0 ≡ 0xFF → allIs 0xFF ub ≡ false → packetsOfUserBytes y sizes ub ≡ refused 13 0
+  unfolding packetsOfUserBytes
+  users-mixed e a = rw (here 0xFF e, a)
+
+  -- any other
+  pub users-other : (getD us 0 0 ≡ 0xE1 → ⊥) → (getD us 0 0 ≡ 0xE3 → ⊥) → (getD us 0 0 ≡ 0xFF → ⊥) → packetsOfUserBytes y sizes ub ≡ refused 13 0
+  unfolding packetsOfUserBytes
+  users-other a b c = rw (first, ne-eqb (getD us 0 0) 0xE1 a, ne-eqb (getD us 0 0) 0xE3 b, ne-eqb (getD us 0 0) 0xFF c)
+
+-- the string of no packets is nothing
+pub none-shown : shown [] ≡ listed []
+unfolding shown Rattle.sheet.specs.Write.shownRow
+none-shown = refl
+
+-- ---- the area
+
+module _ (sys : ℕ) (area : List ℕ) (x : Figures) (is : x ≡ figuresOf sys) where
+  sequences-is : x .sequences ≡ system sys .sequences
+  unfolding figuresOf
+  sequences-is = ap (λ (z : Figures). z .sequences) is
+
+  area-is : x .area ≡ areaSize (system sys)
+  unfolding figuresOf
+  area-is = ap (λ (z : Figures). z .area) is
+
+  pub last-is : x .«last_line» .0 ≡ system sys .last
+  unfolding figuresOf
+  last-is = ap (λ (z : Figures). z .«last_line» .0) is
+
+  -- 3
+  pub unknown-reads : Bytes area → (sheet : List ℕ) (r : ReadBack) → x .sequences ≡ 0 → r ≡ readBackOf 0 0 (refused 3 0) → Reads sys area sheet r sheet
+  unfolding read bufferAfter reading
+  unknown-reads b sheet r z q =
+      let k = unknown-figures sys (sym sequences-is ∙ z) in
+      reads sys area sheet r sheet b (q ∙ rw k) (rw k)
+
+  module _ (z : x .sequences ≡ 0 → ⊥) where
+    pub is-known : known sys ≡ true
+    is-known = known-figures sys (λ e. z (sequences-is ∙ e))
+
+    -- 4
+    pub other-reads : Bytes area → (sheet : List ℕ) (r : ReadBack) → (length area ≡ x .area → ⊥) → r ≡ readBackOf 0 0 (refused 4 0)
+        → Reads sys area sheet r sheet
+    unfolding read bufferAfter reading
+    other-reads b sheet r n q =
+        let l = ne-eqb (length area) (areaSize (system sys)) (λ e. n (e ∙ sym area-is)) in
+        reads sys area sheet r sheet b (q ∙ rw (is-known, l)) (rw (is-known, l))
+
+    -- the area is the system's own
+    module _ (own : length area ≡ x .area) (total : ℕ) (count : total ≡ collected sys area) where
+      own-area : length area ≡ areaSize (system sys)
+      own-area = own ∙ area-is
+
+      pub own-total : total ≡ sum (blockSizes (system sys))
+      unfolding collected
+      own-total = count ∙ rw (is-known, eq-eqb (length area) (areaSize (system sys)) own-area)
+
+      module _ (before us : List ℕ) (out : us ≡ bytesAfter sys area before) where
+        users : take total us ≡ userBytesIn (system sys) area
+        unfolding bytesAfter
+        users =
+            let l = gather-length (areaSize (system sys)) (runs (system sys)) area (facts-of sys is-known .within) own-area in
+            ap (take total) (out ∙ rw (is-known, eq-eqb (length area) (areaSize (system sys)) own-area))
+            ∙ take-at (userBytesIn (system sys) area) (drop (sum (blockSizes (system sys))) before) total (l ∙ sym own-total)
+
+        -- 13 and on
+        pub own-reads : Bytes area → (sheet : List ℕ) (r : ReadBack) (after : List ℕ)
+            → Back sys (packingFound (take total us)) sheet (packetsOfUserBytes (system sys) (blockSizes (system sys)) (take total us)) r after
+            → Reads sys area sheet r after
+        unfolding read bufferAfter reading
+        own-reads b sheet r after w =
+            let e = eq-eqb (length area) (areaSize (system sys)) own-area in
+            reads sys area sheet r after b (w .answer ∙ rw (is-known, e, users)) (w .buffer ∙ rw (is-known, e, users))

@@ -1,0 +1,169 @@
+// Reading an area to a sheet (document 01, "Numbers given back": 3, 4, 13, then packet by packet 5, 14, 15, 16, then 17).
+use frame::Line;
+use rules::ReadBack;
+ghost use mathlib.Core.Path.{_≡_};
+ghost use mathlib.Core.Bool.{true};
+ghost use mathlib.Core.List.{List};
+ghost use Prim.Native.Nat.{_/_, _%_, _≤_, _<_};
+ghost use lib.ListN.{length, take};
+ghost use Rattle.rules.specs.Base.{sum};
+ghost use Rattle.rules.specs.Systems.{System, known, system as systemOf};
+ghost use Rattle.rules.specs.Packet.{Packet};
+ghost use Rattle.rules.specs.Sheet.{limit};
+ghost use Rattle.rules.specs.Blocks.{blockSizes};
+ghost use Rattle.rules.specs.Numbers.{Outcome, listed, refused, packetsIn};
+ghost use Rattle.rules.specs.Reading.{readBackOf, stringRow, packetsOfOpened, packetsOfUserBytes, packingFound};
+ghost use Rattle.rules.specs.Demands.{Reads};
+ghost use Rattle.sheet.specs.Write.{shown};
+ghost use Rattle.packing1.specs.Open.{packetsOfFives};
+ghost use Rattle.packing2.specs.Unlong.{openedFrom};
+ghost use Rattle.vanc.specs.Read.{Back, Coded};
+
+// From here on an answer of the packings is a refusal.
+const REFUSED: usize = 1073741824;
+
+// "On refusal the later figures are 0".
+fn refusal(number: u64, place: u64) -> ReadBack
+    ensures { λ r. ⌜ r ≡ readBackOf 0 0 (refused number place) ⌝ }
+{
+    ReadBack {
+        number,
+        place,
+        packing: 0,
+        packets: 0,
+        numbers: 0,
+    }
+}
+
+// A known system's number as the sheet has it.
+fn narrow(system: u64) -> u16
+    requires { ⌜ system ≤ 3 ⌝ }
+    ensures { λ r. ⌜ r ≡ system ⌝ }
+{
+    system as u16
+}
+
+// "17 | the sheet buffer is too small", tested last, since the list says how long its sheet is. On refusal the buffer is unchanged.
+fn written(system: u64, packing: u64, packets: u64, string: &[u8], sheet: &mut [u16]) -> ReadBack
+    requires { ⌜ (system ≤ 3) × (length (now string) ≤ 9360) ⌝ }
+    ensures { λ r. ⌜ ((ps : List Packet) → shown (now (string .entry)) ≡ listed ps → packets ≡ length ps
+        → Back system packing (now (sheet .entry)) (listed ps) r (now (sheet .exit))) ⌝ }
+{
+    let numbers = sheet::write_sheet(narrow(system), string, sheet);
+    if numbers == 0 {
+        return refusal(17, 0);
+    }
+    ReadBack {
+        number: 0,
+        place: 0,
+        packing,
+        packets,
+        numbers: numbers as u64,
+    }
+}
+
+// What the packings answer: a refusal and its packet, or how many packets there are and where their string ends in `us`.
+fn decoded(system: u64, packing: u64, code: usize, us: &[u8], sheet: &mut [u16]) -> ReadBack
+    requires { ⌜ (system ≤ 3) × (length (now us) ≡ 9360) × (code < 1073741824 → code / 1024 ≤ 9360) ⌝ }
+    ensures { λ r. ⌜ ((o : Outcome) → Coded o code (now (us .entry)) → Back system packing (now (sheet .entry)) o r (now (sheet .exit))) ⌝ }
+{
+    if code >= REFUSED {
+        let n = code - REFUSED;
+        return refusal((n / 1024) as u64, (n % 1024) as u64);
+    }
+    let end = code / 1024;
+    written(system, packing, (code % 1024) as u64, &us[..end], sheet)
+}
+
+// "Or it is E1h": packs of 5 (001, 4.1.1).
+fn read_fives(
+    system: u64,
+    last: Line,
+    us: &mut [u8; 9360],
+    total: usize,
+    sheet: &mut [u16],
+) -> ReadBack
+    requires { ⌜ (system ≤ 3) × (last .0 < 2047) ⌝ }
+    ensures { λ r. ⌜ ((y : System) → y .last ≡ last .0
+        → Back system 1 (now (sheet .entry)) (packetsOfFives y (now (us .entry)) total) r (now (sheet .exit))) ⌝ }
+{
+    let code = packing1::open_fives(last, us, total);
+    decoded(system, 1, code, us, sheet)
+}
+
+// "the string bytes of all packs are walked": as many as `opened` has 128s, and the rest of it is how many the last pack has room for.
+fn read_string(system: u64, last: Line, opened: usize, us: &[u8], sheet: &mut [u16]) -> ReadBack
+    requires { ⌜ (system ≤ 3) × (last .0 < 2047) × (length (now us) ≡ 9360) × (opened / 128 ≤ 8928) ⌝ }
+    ensures { λ r. ⌜ ((y : System) → y .last ≡ last .0 → Back system 2 (now (sheet .entry))
+        (packetsIn (stringRow y (opened % 128)) limit 0 (take (opened / 128) (now (us .entry)))) r (now (sheet .exit))) ⌝ }
+{
+    let end = opened / 128;
+    let code = danc::validate(last, opened % 128, &us[..end], 0, 0);
+    decoded(system, 2, code, us, sheet)
+}
+
+// "Or it is E3h": long packs (001, 4.1.2).
+fn read_long(system: u64, last: Line, us: &mut [u8; 9360], sheet: &mut [u16]) -> ReadBack
+    requires { ⌜ (system ≤ 3) × (last .0 < 2047) ⌝ }
+    ensures { λ r. ⌜ ((y : System) → y .last ≡ last .0
+        → Back system 2 (now (sheet .entry)) (packetsOfOpened y (openedFrom system (now (us .entry)))) r (now (sheet .exit))) ⌝ }
+{
+    let opened = packing2::open_long(system, us);
+    if opened == 0 {
+        return refusal(13, 0);
+    }
+    read_string(system, last, opened, us, sheet)
+}
+
+// "Refusal 13 is given unless one of these holds. The first user byte in laying order is FFh and so is every other. Or it is E1h, ..
+// Or it is E3h, .." An empty list has "packing found (0 for an empty list)", and its sheet is that of no string.
+fn read_users(
+    system: u64,
+    last: Line,
+    us: &mut [u8; 9360],
+    total: usize,
+    sheet: &mut [u16],
+) -> ReadBack
+    requires { ⌜ (known system ≡ true) × (total ≡ sum (blockSizes (systemOf system))) × (last .0 ≡ systemOf system .last) ⌝ }
+    ensures { λ r. ⌜ Back system (packingFound (take total (now (us .entry)))) (now (sheet .entry))
+        (packetsOfUserBytes (systemOf system) (blockSizes (systemOf system)) (take total (now (us .entry)))) r (now (sheet .exit)) ⌝ }
+{
+    let s = &us[..];
+    let first = s[0];
+    if first == 0xE1 {
+        return read_fives(system, last, us, total, sheet);
+    }
+    if first == 0xE3 {
+        return read_long(system, last, us, sheet);
+    }
+    if first != 0xFF {
+        return refusal(13, 0);
+    }
+    if !danc::all_fill(&s[..total]) {
+        return refusal(13, 0);
+    }
+    written(system, 0, 0, &s[..0], sheet)
+}
+
+// "Reading tests 3, 4, 13, then packet by packet 5 (only a 513th), 14, 15, 16, then 17." The user bytes are taken out into `us`.
+fn read_with(system: u64, area: &[u8], us: &mut [u8; 9360], sheet: &mut [u16]) -> ReadBack
+    ensures { λ r. ⌜ Reads system (now (area .entry)) (now (sheet .entry)) r (now (sheet .exit)) ⌝ }
+{
+    let figures = frame::figures_of(system);
+    if figures.sequences == 0 {
+        return refusal(3, 0);
+    }
+    if area.len() != figures.area {
+        return refusal(4, 0);
+    }
+    let total = frame::collect(system, area, us);
+    read_users(system, figures.last_line, us, total, sheet)
+}
+
+// "the reader accepts an area exactly when" a sound list laid by the rules gives its user bytes: the list's sheet stands in the buffer.
+pub fn read(system: u64, area: &[u8], sheet: &mut [u16]) -> ReadBack
+    ensures { λ r. ⌜ Reads system (now (area .entry)) (now (sheet .entry)) r (now (sheet .exit)) ⌝ }
+{
+    let mut us = [0u8; 9360];
+    read_with(system, area, &mut us, sheet)
+}
