@@ -98,9 +98,10 @@ bytes1 : (sizes : List ℕ) (ps : List Packet)
     → laidBytes 1 sizes ps ≡ flat (joined packs (map written ps)) ++ fill (sum sizes - 5 * sum (map packsOf ps))
 unfolding userBytes
 bytes1 sizes ps =
+    let n : sum (map packsOf (packetsOf (map written ps))) ≡ sum (map packsOf ps) = ap (λ (qs : List Packet). sum (map packsOf qs)) (written-back ps) in
     let l : length (flat (joined packs (map written ps))) ≡ 5 * sum (map packsOf ps) =
-    flat-length (joined packs (map written ps)) ∙ ap (λ (n : ℕ). 5 * n) (packs-length (map written ps) ∙ ap (λ (qs : List Packet). sum (map packsOf qs)) (written-back ps)) in
-    ap (λ (n : ℕ). flat (joined packs (map written ps)) ++ fill (sum sizes - n)) l
+    flat-length (joined packs (map written ps)) ∙ ap (λ (m : ℕ). 5 * m) (packs-length (map written ps) ∙ n) in
+    ap (λ (m : ℕ). flat (joined packs (map written ps)) ++ fill (sum sizes - m)) l
 
 -- the packs over fill are the list's user bytes, and fill behind them
 pub laid1 : (sys : ℕ) (ls ws us area after : List ℕ) → LaysFives ls ws (fill 9360) us → after ≡ areaWith sys us area

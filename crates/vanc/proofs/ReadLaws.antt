@@ -17,7 +17,7 @@ use Rattle.rules.specs.Systems.{System, known, system}
 use Rattle.rules.specs.Packet.{Packet}
 use Rattle.rules.specs.Danc.{stringBytes, string}
 use Rattle.rules.specs.Sheet.{limit, sheetOf}
-use Rattle.rules.specs.Blocks.{runs, blockSizes, areaSize, userBytesIn}
+use Rattle.rules.specs.Blocks.{width, runs, blockSizes, areaSize, userBytesIn}
 use Rattle.rules.specs.Packing1.{fives}
 use Rattle.rules.specs.Packing2.{Opened, opened}
 use Rattle.rules.specs.Numbers.{Outcome, listed, refused, unless, also, Row, packetsIn}
@@ -33,7 +33,7 @@ use Rattle.frame.specs.Bytes.{collected, bytesAfter}
 use Rattle.frame.specs.Systems.{figuresOf}
 use Rattle.frame.specs.declared.Figures.{Figures}
 use Rattle.frame.proofs.Laws.{each-system, unknown-figures, known-figures}
-use Rattle.sheet.specs.Write.{shown, wrote, sheetAfter}
+use Rattle.sheet.specs.Write.{shownRow, shown, wrote, sheetAfter}
 use Rattle.sheet.proofs.WriteLaws.{shown-string}
 use Rattle.danc.specs.Validated.{codeOf as validCode, validated, Within}
 use Rattle.packing1.specs.Open.{codeOf, Opens, packetsOfFives}
@@ -83,7 +83,8 @@ pub back-refused : (sys k : ℕ) (sheet : List ℕ) (o : Outcome) (n i : ℕ) (r
 back-refused sys k sheet o n i r e q = record { answer = q ∙ rw e; buffer = rw e }
 
 -- another name of the same outcome and packing
-pub back-of : {sys k j : ℕ} {sheet : List ℕ} {o q : Outcome} {r : ReadBack} {after : List ℕ} → j ≡ k → q ≡ o → Back sys k sheet o r after → Back sys j sheet q r after
+pub back-of : {sys k j : ℕ} {sheet : List ℕ} {o q : Outcome} {r : ReadBack} {after : List ℕ} → j ≡ k → q ≡ o → Back sys k sheet o r after
+    → Back sys j sheet q r after
 back-of e f w = record { answer = w .answer ∙ rw (e, f); buffer = w .buffer ∙ rw f }
 
 -- ---- rows of packets
@@ -217,7 +218,8 @@ valid-code : (o : Outcome) → validCode 0 0 o ≡ codeOf o
 valid-code (listed ps) = omega arith
 valid-code (refused n i) = refl
 
-module _ (y : System) (hm : y .last < 2047) (us : List ℕ) (len room code : ℕ) (b : Bytes us) (most : len ≤ 8928) (long : length us ≡ 9360) (v : code ≡ validated y room (take len us) 0 0) where
+module _ (y : System) (hm : y .last < 2047) (us : List ℕ) (len room code : ℕ) (b : Bytes us) (most : len ≤ 8928) (long : length us ≡ 9360)
+    (v : code ≡ validated y room (take len us) 0 0) where
   abbrev walked : Outcome
   walked = packetsIn (stringRow y room) limit 0 (take len us)
 
@@ -253,7 +255,7 @@ module _ (y : System) (hm : y .last < 2047) (us : List ℕ) (len room code : ℕ
         string = λ ps e. ap shown (laid-front ps e) ∙ shown-string y hm (laid ps e .items) (laid ps e .good) ∙ ap listed (laid ps e .packets);
       }
 
--- the number that opening gives: nothing opened
+-- what opening's number says: nothing opened
 pub long-shut : (y : System) (o : Opened) (r : ℕ) (us : List ℕ) → Answer o r us → r ≡ 0 → packetsOfOpened y o ≡ refused 13 0
 long-shut y o r us w z = ap (packetsOfOpened y) (answer-none o r us w z)
 
@@ -293,7 +295,7 @@ known-low sys e = go (eqb sys 1) refl (eqb sys 2) refl (eqb sys 3) refl e
     go false p false q false r e = never (cc)
 
 bytes-known : (sys : ℕ) → known sys ≡ true → (0 < sum (blockSizes (system sys))) × (sum (blockSizes (system sys)) ≤ 9360)
-unfolding runs Rattle.rules.specs.Blocks.width
+unfolding runs width
 bytes-known =
     each-system (λ (y : System) (k : Bool). k ≡ true → (0 < sum (blockSizes y)) × (sum (blockSizes y) ≤ 9360))
     (λ e. (omega arith, omega arith))
@@ -363,7 +365,7 @@ module _ (sys total : ℕ) (us : List ℕ) (known : known sys ≡ true) (is : to
 
 -- the string of no packets is nothing
 pub none-shown : shown [] ≡ listed []
-unfolding shown Rattle.sheet.specs.Write.shownRow
+unfolding shown shownRow
 none-shown = refl
 
 -- ---- the area

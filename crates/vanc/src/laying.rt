@@ -50,7 +50,7 @@ fn lay2(system: u64, ls: &[u16], ws: &[u16], area: &mut [u8])
     frame::spread(system, &us, area);
 }
 
-// "12 | exceeds the capacity": packs in packing 1, string bytes in packing 2. Then the area is written; nothing is tested after that.
+// "12 | over the packs (packing 1) or string bytes (packing 2)", the last test: only then is the area written.
 fn lay_list(packing: u64, t: Tested, sheet: &[u16], area: &mut [u8]) -> Laid
     requires { ⌜ shaped (now sheet) ≡ true ⌝ }
     ensures { λ r. ⌜ LaysList packing t (now (sheet .entry)) (now (area .entry)) r (now (area .exit)) ⌝ }

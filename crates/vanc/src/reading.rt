@@ -43,7 +43,7 @@ fn narrow(system: u64) -> u16
     system as u16
 }
 
-// "17 | the sheet buffer is too small", tested last, since the list says how long its sheet is. On refusal the buffer is unchanged.
+// "17 | the sheet is longer than its buffer": known only once the list is. On refusal the buffer "is unchanged".
 fn written(system: u64, packing: u64, packets: u64, string: &[u8], sheet: &mut [u16]) -> ReadBack
     requires { ⌜ (system ≤ 3) × (length (now string) ≤ 9360) ⌝ }
     ensures { λ r. ⌜ ((ps : List Packet) → shown (now (string .entry)) ≡ listed ps → packets ≡ length ps
@@ -160,7 +160,8 @@ fn read_with(system: u64, area: &[u8], us: &mut [u8; 9360], sheet: &mut [u16]) -
     read_users(system, figures.last_line, us, total, sheet)
 }
 
-// "the reader accepts an area exactly when" a sound list laid by the rules gives its user bytes: the list's sheet stands in the buffer.
+// Demand 3, "accepts exactly": the sheet of the list that gives the area's user bytes then stands in the buffer, or nothing is written.
+// The user bytes need a place of their own, so that the area stays as it is.
 pub fn read(system: u64, area: &[u8], sheet: &mut [u16]) -> ReadBack
     ensures { λ r. ⌜ Reads system (now (area .entry)) (now (sheet .entry)) r (now (sheet .exit)) ⌝ }
 {

@@ -17,7 +17,9 @@ same-length : tie.Need-same-length
 same-length c = search needs
 
 returns : tie.Need-returns
-returns c = laid2 _ _ _ _ _ _ _ (c .before .before .before .before .before .before .before .before .string-of .ensures) (c .before .before .before .before .before .lay-long .ensures .1 .0) (c .before .before .spread .ensures .1)
+returns c =
+    let l : tie.After-lay-long = c .before .before .before .before .before in
+    laid2 _ _ _ _ _ _ _ (l .before .before .before .string-of .ensures) (l .lay-long .ensures .1 .0) (c .before .before .spread .ensures .1)
 
 pub lay2-spec : {M : Type 1} → statement M
 lay2-spec =

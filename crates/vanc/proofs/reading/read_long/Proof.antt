@@ -1,11 +1,16 @@
 -- `vanc::reading::read_long` meets its contract: what opening long packs leaves is nothing or a string. Assumes nothing.
 use mathlib.Core.Path.{refl}
 use borrow.Author.Needs.{needs}
-use Rattle.packing2.specs.Unlong.{openedFrom}
+use Rattle.rules.specs.Packing2.{Opened}
 use Rattle.rules.specs.Reading.{packetsOfOpened}
+use Rattle.packing2.specs.Unlong.{openedFrom}
 use Rattle.vanc.proofs.ReadLaws.{back-refused, back-of, long-shut, long-open, long-len}
 use Rattle.vanc.proofs.reading.read_long.Statement.{statement}
 use Rattle.vanc.proofs.reading.read_long.Tie as tie
+
+-- what the packs open to
+abbrev found : tie.After-open-long → Opened
+found c = openedFrom (c .before .before .before .args .system) (c .before .before .before .args .us .now)
 
 open-long-requires : tie.Need-open-long-requires
 open-long-requires c κs = search needs
@@ -15,27 +20,28 @@ refusal-requires c κs = search needs
 
 returns : tie.Need-returns
 returns c =
-    λ y e.
     let a = c .before .before .before .before .before .args in
     let o = c .before .before .open-long in
-    back-refused (a .system) 2 (a .sheet .now) (packetsOfOpened y (openedFrom (a .system) (a .us .now))) 13 0 (c .refusal .result) (long-shut y (openedFrom (a .system) (a .us .now)) (o .result) (o .last .1 .0) (o .ensures) (c .before .if1 .taken)) (c .refusal .ensures)
+    λ y e.
+    let s = long-shut y (found (c .before .before)) (o .result) (o .last .1 .0) (o .ensures) (c .before .if1 .taken) in
+    back-refused (a .system) 2 (a .sheet .now) (packetsOfOpened y (found (c .before .before))) 13 0 (c .refusal .result) s (c .refusal .ensures)
 
 read-string-requires : tie.Need-read-string-requires
 read-string-requires c κs =
-    let a = c .before .before .before .before .before .before .before .args in
     let p = c .before .before .before .before .before .before .before .pre in
     let o = c .before .before .before .before .open-long in
-    (p .0, p .1, c .before .read-string-arg2 .given .0, long-len (openedFrom (a .system) (a .us .now)) (o .result) (o .last .1 .0) (o .ensures) (c .before .before .before .if1 .left))
+    let some = c .before .before .before .if1 .left in
+    (p .0, p .1, c .before .read-string-arg2 .given .0, long-len (found (c .before .before .before .before)) (o .result) (o .last .1 .0) (o .ensures) some)
 
 same-length : tie.Need-same-length
 same-length c = search needs
 
 returns-2 : tie.Need-returns-2
 returns-2 c =
-    λ y e.
-    let a = c .before .before .before .before .before .before .before .before .before .before .args in
-    let o = c .before .before .before .before .before .before .before .open-long in
-    back-of refl (long-open y (openedFrom (a .system) (a .us .now)) (o .result) (o .last .1 .0) (o .ensures) (c .before .before .before .before .before .before .if1 .left)) (c .before .before .read-string .ensures y e)
+    let b : tie.After-open-long = c .before .before .before .before .before .before .before in
+    let o = b .open-long in
+    let some = c .before .before .before .before .before .before .if1 .left in
+    λ y e. back-of refl (long-open y (found b) (o .result) (o .last .1 .0) (o .ensures) some) (c .before .before .read-string .ensures y e)
 
 pub read-long-spec : {M : Type 1} → statement M
 read-long-spec =

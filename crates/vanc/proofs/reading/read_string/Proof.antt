@@ -1,17 +1,44 @@
--- `vanc::reading::read_string` meets its contract: what the walk of a string gives is an outcome's number, and the string stands where it was. Assumes nothing.
-use Prim.Native.Nat.{_/_, _%_}
-use mathlib.Core.Path.{refl, sym}
+-- `vanc::reading::read_string` meets its contract: the walk's answer is an outcome's number, and the string stands where it was.
+-- Assumes nothing.
+use Prim.Native.Nat.{ℕ, _/_, _%_}
+use mathlib.Core.Path.{_≡_, refl, sym}
+use mathlib.Core.List.{List}
 use native.Mathlib.Omega.{arith}
-use lib.Seq.{length-take-le}
 use lib.ListN.{take}
+use lib.Seq.{length-take-le}
 use borrow.Author.Needs.{needs}
-use Rattle.rules.specs.Reading.{stringRow}
-use Rattle.rules.specs.Numbers.{packetsIn}
-use Rattle.rules.specs.Sheet.{limit}
 use Rattle.rules.specs.Systems.{System}
+use Rattle.rules.specs.Sheet.{limit}
+use Rattle.rules.specs.Numbers.{Outcome, packetsIn}
+use Rattle.rules.specs.Reading.{stringRow}
+use Rattle.vanc.specs.Read.{Coded}
 use Rattle.vanc.proofs.ReadLaws.{long-within, long-coded, code-fits}
 use Rattle.vanc.proofs.reading.read_string.Statement.{statement}
 use Rattle.vanc.proofs.reading.read_string.Tie as tie
+
+-- after the walk, for every system with this last line
+module _ (c : tie.After-validate) (y : System) (e : y .last ≡ c .before .before .before .before .args .last .0) where
+  abbrev start : tie.Start
+  start = c .before .before .before .before
+
+  abbrev len : ℕ
+  len = start .args .opened / 128
+
+  abbrev room : ℕ
+  room = start .args .opened % 128
+
+  abbrev us : List ℕ
+  us = start .args .us .now
+
+  abbrev walked : Outcome
+  walked = packetsIn (stringRow y room) limit 0 (take len us)
+
+  coded : Coded walked (c .validate .result) us
+  coded =
+      let p = start .pre in
+      let q = p .1 in
+      let v = c .validate .ensures y e (long-within us len (p .3)) in
+      long-coded y (omega arith) us len room (c .validate .result) (λ i. c .before .before .before .shared-slice-known .given i .fits) (p .3) (p .2) v
 
 slice-aggregate-validate : tie.Need-slice-aggregate-validate
 slice-aggregate-validate c =
@@ -29,20 +56,13 @@ decoded-requires c κs =
     let a = c .before .before .before .before .before .args in
     let p = c .before .before .before .before .before .pre in
     let y : System = record { sequences = 0; last = a .last .0 } in
-    let v = c .before .validate in
-    (p .0, p .2, code-fits (packetsIn (stringRow y (a .opened % 128)) limit 0 (take (a .opened / 128) (a .us .now))) (v .result) (a .us .now) (long-coded y (p .1) (a .us .now) (a .opened / 128) (a .opened % 128) (v .result) (λ i. c .before .before .before .before .shared-slice-known .given i .fits) (p .3) (p .2) (v .ensures y refl (long-within (a .us .now) (a .opened / 128) (p .3)))))
+    (p .0, p .2, code-fits (walked (c .before) y refl) (c .before .validate .result) (a .us .now) (coded (c .before) y refl))
 
 same-length : tie.Need-same-length
 same-length c = search needs
 
 returns : tie.Need-returns
-returns c =
-    λ y e.
-    let a = c .before .before .before .before .before .before .before .before .args in
-    let p = c .before .before .before .before .before .before .before .before .pre in
-    let q = p .1 in
-    let v = c .before .before .before .before .validate in
-    c .before .before .decoded .ensures (packetsIn (stringRow y (a .opened % 128)) limit 0 (take (a .opened / 128) (a .us .now))) (long-coded y (omega arith) (a .us .now) (a .opened / 128) (a .opened % 128) (v .result) (λ i. c .before .before .before .before .before .before .before .shared-slice-known .given i .fits) (p .3) (p .2) (v .ensures y e (long-within (a .us .now) (a .opened / 128) (p .3))))
+returns c = λ y e. c .before .before .decoded .ensures (walked (c .before .before .before .before) y e) (coded (c .before .before .before .before) y e)
 
 pub read-string-spec : {M : Type 1} → statement M
 read-string-spec =

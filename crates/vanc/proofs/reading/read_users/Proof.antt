@@ -1,73 +1,97 @@
 -- `vanc::reading::read_users` meets its contract: a law for each first user byte. Assumes nothing.
-use mathlib.Core.List.{[]}
-use mathlib.Core.Path.{refl, sym, _∙_}
+use Prim.Native.Nat.{ℕ, _<_}
+use mathlib.Core.Path.{_≡_, refl, sym, _∙_}
+use mathlib.Core.Bool.{true}
+use mathlib.Core.List.{List, []}
 use native.Mathlib.Omega.{arith}
+use lib.ListN.{length}
 use lib.Seq.{length-take-le}
-use borrow.Author.Tests.{not-true, not-false}
 use borrow.Author.Needs.{needs}
-use Rattle.rules.specs.Systems.{system}
-use Rattle.vanc.proofs.ReadLaws.{back-refused, back-of, frame-of, users-fives, users-long, users-fill, users-mixed, users-other, none-shown}
+use borrow.Author.Tests.{not-true, not-false}
+use Rattle.rules.specs.Base.{sum}
+use Rattle.rules.specs.Systems.{known, system}
+use Rattle.rules.specs.Blocks.{blockSizes}
+use Rattle.vanc.proofs.ReadLaws.{Frame, frame-of, back-refused, back-of, users-fives, users-long, users-fill, users-mixed, users-other, none-shown}
 use Rattle.vanc.proofs.reading.read_users.Statement.{statement}
 use Rattle.vanc.proofs.reading.read_users.Tie as tie
+
+-- what is known where the first user byte is read
+module _ (c : tie.After-shared-slice-known) where
+  abbrev start : tie.Start
+  start = c .before .before .before .before
+
+  abbrev sys : ℕ
+  sys = start .args .system
+
+  abbrev total : ℕ
+  total = start .args .total
+
+  abbrev us : List ℕ
+  us = start .args .us .now
+
+  is-known : known sys ≡ true
+  is-known = start .pre .0
+
+  is-total : total ≡ sum (blockSizes (system sys))
+  is-total = start .pre .1
+
+  long : length us ≡ 9360
+  long = c .before .s2 .given .0
+
+  frame : Frame sys
+  frame = frame-of sys is-known
+
+  line : start .args .last .0 < 2047
+  line = let h = frame .last in let q = start .pre .2 in omega arith
 
 shared-slice-read-first : tie.Need-shared-slice-read-first
 shared-slice-read-first c = search needs
 
 read-fives-requires : tie.Need-read-fives-requires
-read-fives-requires c κs =
-    let a = c .before .before .before .before .before .before .before .args in
-    let p = c .before .before .before .before .before .before .before .pre in
-    let f = frame-of (a .system) (p .0) in
-    let h = f .last in
-    let q = p .2 in
-    (f .low, omega arith)
+read-fives-requires c κs = let b : tie.After-shared-slice-known = c .before .before .before in (frame b .low, line b)
 
 same-length : tie.Need-same-length
 same-length c = search needs
 
+-- E1h
 returns : tie.Need-returns
 returns c =
-    let a = c .before .before .before .before .before .before .before .before .before .before .args in
-    let p = c .before .before .before .before .before .before .before .before .before .before .pre in
-    let u = users-fives (a .system) (a .total) (a .us .now) (p .0) (p .1) (c .before .before .before .before .before .before .before .s2 .given .0) (c .before .before .before .before .before .if1 .taken) in
-    back-of (u .0) (u .1) (c .before .before .read-fives .ensures (system (a .system)) (sym (p .2)))
+    let b : tie.After-shared-slice-known = c .before .before .before .before .before .before in
+    let u = users-fives (sys b) (total b) (us b) (is-known b) (is-total b) (long b) (c .before .before .before .before .before .if1 .taken) in
+    back-of (u .0) (u .1) (c .before .before .read-fives .ensures (system (sys b)) (sym (start b .pre .2)))
 
 read-long-requires : tie.Need-read-long-requires
-read-long-requires c κs =
-    let a = c .before .before .before .before .before .before .before .before .args in
-    let p = c .before .before .before .before .before .before .before .before .pre in
-    let f = frame-of (a .system) (p .0) in
-    let h = f .last in
-    let q = p .2 in
-    (f .low, omega arith)
+read-long-requires c κs = let b : tie.After-shared-slice-known = c .before .before .before .before in (frame b .low, line b)
 
 same-length-2 : tie.Need-same-length-2
 same-length-2 c = search needs
 
+-- E3h
 returns-2 : tie.Need-returns-2
 returns-2 c =
-    let a = c .before .before .before .before .before .before .before .before .before .before .before .args in
-    let p = c .before .before .before .before .before .before .before .before .before .before .before .pre in
-    let u = users-long (a .system) (a .total) (a .us .now) (p .0) (p .1) (c .before .before .before .before .before .before .before .before .s2 .given .0) (c .before .before .before .before .before .if2 .taken) in
-    back-of (u .0) (u .1) (c .before .before .read-long .ensures (system (a .system)) (sym (p .2)))
+    let b : tie.After-shared-slice-known = c .before .before .before .before .before .before .before in
+    let u = users-long (sys b) (total b) (us b) (is-known b) (is-total b) (long b) (c .before .before .before .before .before .if2 .taken) in
+    back-of (u .0) (u .1) (c .before .before .read-long .ensures (system (sys b)) (sym (start b .pre .2)))
 
 refusal-requires : tie.Need-refusal-requires
 refusal-requires c κs = search needs
 
+-- none of the three
 returns-3 : tie.Need-returns-3
 returns-3 c =
-    let a = c .before .before .before .before .before .before .before .before .args in
-    let p = c .before .before .before .before .before .before .before .before .pre in
-    back-refused (a .system) _ (a .sheet .now) _ 13 0 (c .refusal .result) (users-other (a .system) (a .total) (a .us .now) (p .0) (p .1) (c .before .before .before .before .before .s2 .given .0) (c .before .before .before .if1 .left) (c .before .before .if2 .left) (c .before .if3 .taken)) (c .refusal .ensures)
+    let b : tie.After-shared-slice-known = c .before .before .before .before in
+    let not1 = c .before .before .before .if1 .left in
+    let not3 = c .before .before .if2 .left in
+    let u = users-other (sys b) (total b) (us b) (is-known b) (is-total b) (long b) not1 not3 (c .before .if3 .taken) in
+    back-refused (sys b) _ (start b .args .sheet .now) _ 13 0 (c .refusal .result) u (c .refusal .ensures)
 
 slice-aggregate-all-fill : tie.Need-slice-aggregate-all-fill
 slice-aggregate-all-fill c =
-    let a = c .before .before .before .before .before .before .before .before .args in
-    let p = c .before .before .before .before .before .before .before .before .pre in
-    let m = frame-of (a .system) (p .0) .most in
-    let q = p .1 in
-    let l = c .before .before .before .before .before .s2 .given .0 in
-    sym (length-take-le (a .total) (a .us .now) (omega arith))
+    let b : tie.After-shared-slice-known = c .before .before .before .before in
+    let m = frame b .most in
+    let q = is-total b in
+    let l = long b in
+    sym (length-take-le _ (us b) (omega arith))
 
 all-fill-requires : tie.Need-all-fill-requires
 all-fill-requires c κs = search needs
@@ -75,29 +99,32 @@ all-fill-requires c κs = search needs
 refusal-requires-2 : tie.Need-refusal-requires-2
 refusal-requires-2 c κs = search needs
 
+-- FFh, and another byte is not
 returns-4 : tie.Need-returns-4
 returns-4 c =
-    let a = c .before .before .before .before .before .before .before .before .before .before .before .args in
-    let p = c .before .before .before .before .before .before .before .before .before .before .before .pre in
+    let b : tie.After-shared-slice-known = c .before .before .before .before .before .before .before in
     let w = c .before .before .all-fill in
-    back-refused (a .system) _ (a .sheet .now) _ 13 0 (c .refusal2 .result) (users-mixed (a .system) (a .total) (a .us .now) (p .0) (p .1) (c .before .before .before .before .before .before .before .before .s2 .given .0) (c .before .before .before .before .if3 .left) (sym (w .ensures) ∙ not-true (w .result) (c .before .if4 .taken))) (c .refusal2 .ensures)
+    let f = sym (w .ensures) ∙ not-true (w .result) (c .before .if4 .taken) in
+    let u = users-mixed (sys b) (total b) (us b) (is-known b) (is-total b) (long b) (c .before .before .before .before .if3 .left) f in
+    back-refused (sys b) _ (start b .args .sheet .now) _ 13 0 (c .refusal2 .result) u (c .refusal2 .ensures)
 
 slice-aggregate-written : tie.Need-slice-aggregate-written
 slice-aggregate-written c = search needs
 
 written-requires : tie.Need-written-requires
-written-requires c κs =
-    (frame-of (c .before .before .before .before .before .before .before .before .before .before .before .before .args .system) (c .before .before .before .before .before .before .before .before .before .before .before .before .pre .0) .low, omega arith)
+written-requires c κs = let b : tie.After-shared-slice-known = c .before .before .before .before .before .before .before .before in (frame b .low, omega arith)
 
 same-length-3 : tie.Need-same-length-3
 same-length-3 c = search needs
 
+-- FFh, and so is every other
 returns-5 : tie.Need-returns-5
 returns-5 c =
-    let a = c .before .before .before .before .before .before .before .before .before .before .before .before .before .before .before .args in
-    let p = c .before .before .before .before .before .before .before .before .before .before .before .before .before .before .before .pre in
+    let b : tie.After-shared-slice-known = c .before .before .before .before .before .before .before .before .before .before .before in
     let w = c .before .before .before .before .before .before .all-fill in
-    let u = users-fill (a .system) (a .total) (a .us .now) (p .0) (p .1) (c .before .before .before .before .before .before .before .before .before .before .before .before .s2 .given .0) (c .before .before .before .before .before .before .before .before .if3 .left) (sym (w .ensures) ∙ not-false (w .result) (c .before .before .before .before .before .if4 .left)) in
+    let f = sym (w .ensures) ∙ not-false (w .result) (c .before .before .before .before .before .if4 .left) in
+    let first = c .before .before .before .before .before .before .before .before .if3 .left in
+    let u = users-fill (sys b) (total b) (us b) (is-known b) (is-total b) (long b) first f in
     back-of (u .0) (u .1) (c .before .before .written .ensures [] none-shown refl)
 
 pub read-users-spec : {M : Type 1} → statement M

@@ -1,12 +1,27 @@
--- `vanc::reading::written` meets its contract: its sheet is written, or there is no room for it. Assumes nothing.
+-- `vanc::reading::written` meets its contract: the sheet is written, or there is no room for it. Assumes nothing.
 use Prim.Native.Nat.{ℕ}
-use mathlib.Core.Path.{ap, _∙_}
+use mathlib.Core.Path.{_≡_, ap, _∙_}
 use lib.ListN.{length}
 use borrow.Author.Needs.{needs}
 use Rattle.sheet.specs.Write.{wrote, sheetAfter}
 use Rattle.vanc.proofs.ReadLaws.{no-room, all-room}
 use Rattle.vanc.proofs.reading.written.Statement.{statement}
 use Rattle.vanc.proofs.reading.written.Tie as tie
+
+-- what the writing gives back, of the system as it was given
+module _ (c : tie.After-write-sheet) where
+  abbrev start : tie.Start
+  start = c .before .before .before .before .before
+
+  count : c .write-sheet .result ≡ wrote (start .args .system) (start .args .string .now) (length (start .args .sheet .now))
+  count =
+      c .write-sheet .ensures .0
+      ∙ ap (λ (x : ℕ). wrote x (start .args .string .now) (length (start .args .sheet .now))) (c .before .before .narrow .ensures)
+
+  after : c .write-sheet .last .1 .1 .0 ≡ sheetAfter (start .args .system) (start .args .string .now) (start .args .sheet .now)
+  after =
+      c .write-sheet .ensures .1
+      ∙ ap (λ (x : ℕ). sheetAfter x (start .args .string .now) (start .args .sheet .now)) (c .before .before .narrow .ensures)
 
 narrow-requires : tie.Need-narrow-requires
 narrow-requires c κs = search needs
@@ -22,22 +37,26 @@ same-length c = search needs
 
 returns : tie.Need-returns
 returns c =
-    λ ps e q.
+    let b : tie.After-write-sheet = c .before .before .before .before in
     let a = c .before .before .before .before .before .before .before .before .before .args in
-    let w = c .before .before .before .before .write-sheet in
-    let n = c .before .before .before .before .before .before .narrow .ensures in
-    no-room (a .system) (a .packing) ps (a .string .now) (a .sheet .now) (w .last .1 .1 .0) (w .result) e (c .before .before .before .before .before .before .before .before .before .pre .1) (w .ensures .0 ∙ ap (λ (x : ℕ). wrote x (a .string .now) (length (a .sheet .now))) n) (w .ensures .1 ∙ ap (λ (x : ℕ). sheetAfter x (a .string .now) (a .sheet .now)) n) (c .before .if1 .taken) (c .refusal .result) (c .refusal .ensures)
+    let short = c .before .before .before .before .before .before .before .before .before .pre .1 in
+    let n = b .write-sheet .result in
+    λ ps e q.
+    no-room (a .system) (a .packing) ps (a .string .now) (a .sheet .now) (b .write-sheet .last .1 .1 .0) n e short (count b) (after b)
+    (c .before .if1 .taken) (c .refusal .result) (c .refusal .ensures)
 
 same-length-2 : tie.Need-same-length-2
 same-length-2 c = search needs
 
 returns-2 : tie.Need-returns-2
 returns-2 c =
-    λ ps e q.
+    let b : tie.After-write-sheet = c .before .before .before in
     let a = c .before .before .before .before .before .before .before .before .args in
-    let w = c .before .before .before .write-sheet in
-    let n = c .before .before .before .before .before .narrow .ensures in
-    all-room (a .system) (a .packing) ps (a .string .now) (a .sheet .now) (w .last .1 .1 .0) (w .result) e (c .before .before .before .before .before .before .before .before .pre .1) (w .ensures .0 ∙ ap (λ (x : ℕ). wrote x (a .string .now) (length (a .sheet .now))) n) (w .ensures .1 ∙ ap (λ (x : ℕ). sheetAfter x (a .string .now) (a .sheet .now)) n) (c .if1 .left) (a .packets) q
+    let short = c .before .before .before .before .before .before .before .before .pre .1 in
+    let n = b .write-sheet .result in
+    λ ps e q.
+    all-room (a .system) (a .packing) ps (a .string .now) (a .sheet .now) (b .write-sheet .last .1 .1 .0) n e short (count b) (after b)
+    (c .if1 .left) (a .packets) q
 
 pub written-spec : {M : Type 1} → statement M
 written-spec =
