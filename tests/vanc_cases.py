@@ -9,7 +9,7 @@ import pathlib
 import random
 import struct
 
-from reference import LAST, area_size, lay, packet, read, runs, sheet, sheet_tests, spread, user_bytes
+from reference import LAST, area_size, danc, lay, packet, read, runs, sheet, sheet_tests, spread, user_bytes
 
 HOME = pathlib.Path(__file__).resolve().parent.parent / "crates" / "vanc_cases"
 P = packet(0x45, 0x01, [0x10, 0x80])
@@ -76,6 +76,8 @@ def worked():
         yield sound(packing, of([293 % 256, 0, 255]))
     yield sound(1, of([255] * 23 + [160]))
     yield sound(1, of([255] * 23 + [161]))
+    yield sound(1, of([255] * 28 + [88], system=2))
+    yield sound(1, of([255] * 28 + [89], system=2))
     yield sound(2, of([255] * 28 + [97]))
     yield sound(2, of([255] * 28 + [98]))
     yield sound(2, of([255] * 34 + [13], system=2))
@@ -233,7 +235,22 @@ def random_cases(r):
         yield r.choice([1, 2]), s, area_size(system), 7, [], system, 10
 
 
+def figure_8():
+    """001, figure 8: a string of 300 bytes lies in VA 0,0, VA 0,1, VA 0,2, VA 0,3 and VA 1,0, END 0 in the last, and the next block is fill."""
+    area, s = filled(9600, 1000), of([255, 31])
+    assert lay(2, s, area) == (0, 0, 5, 300)
+    string, at = [], 0
+    for block, channel in ((0, 0), (0, 1), (0, 2), (0, 3), (1, 0)):
+        start = 80 * (3 * 10 * channel + block)
+        pack = area[start + 3 : start + 78]
+        assert pack[:3] == bytes([0xE3, 0xFE if (block, channel) == (1, 0) else 0xFF, 0xFF]), (block, channel)
+        string += pack[3:]
+    assert bytes(string[:300]) == bytes(b for p in sheet_tests(s)[2] for b in danc(*p)) and set(string[300:]) == {0xFF}
+    assert set(area[80 * (30 + 1) + 3 : 80 * (30 + 1) + 78]) == {0xFF}
+
+
 def main():
+    figure_8()
     r = random.Random(375)
     cases = list(worked()) + list(random_cases(r))
     text, laid, back = "", {}, {}
