@@ -22,7 +22,8 @@ use Rattle.danc.specs.Validated.{codeOf, validated, Within}
 use Rattle.danc.proofs.Laws.{rest-part, fault-room}
 
 -- a fault's number is at most 16
-fault-small : (y : System) (s : List ℕ) → stringFault y s ≤ 16
+-- no fault has a number over 16
+pub fault-small : (y : System) (s : List ℕ) → stringFault y s ≤ 16
 unfolding stringFault bytesFault
 fault-small y s =
     go (ltb (length s) 7 || ltb (length s) (getD s 5 0 + 7)) (not (eqb (getD s (getD s 5 0 + 6) 0) (checkOf (packetOfBytes s) % 256)))

@@ -21,7 +21,7 @@ use Rattle.rules.specs.Sheet.{locations, allWords}
 use Rattle.rules.specs.Laying.{low}
 use Rattle.rules.specs.Packing1.{Five, five, flat, carriers, carriersFor, packsOf, packs}
 use Rattle.rules.proofs.Basics.{written-back}
-use Rattle.rules.proofs.Words.{low-word, packet-words, words-room}
+use Rattle.rules.proofs.Words.{low-word, packet-words, words-room, map-low}
 use Rattle.rules.proofs.Strings.{danc-length}
 use Rattle.rules.proofs.Packs.{flat-append, flat-length, packs-length}
 use Rattle.danc.proofs.Laws.{header-written}
@@ -191,10 +191,6 @@ module _ (ws : List ℕ) (at : ℕ) (within : at ≤ length ws) where
 
 -- ---- what a sound packet's words give
 
-low-words : (bs : List ℕ) → Bytes bs → map low (map word bs) ≡ bs
-low-words [] h = refl
-low-words (b ∷ bs) h = ap₂ (λ (x : ℕ) (t : List ℕ). x ∷ t) (low-word b (h 0)) (low-words bs (λ i. h (suc i)))
-
 module _ (y : System) (p : Packet) (g : Sound y p) where
   -- the low bytes of the words behind the flag
   low-behind : map low (coded p ++ checkOf p ∷ []) ≡ behind p
@@ -202,7 +198,7 @@ module _ (y : System) (p : Packet) (g : Sound y p) where
   low-behind =
       map-append low (map word (body p)) (checkOf p ∷ [])
       ∙ (λ i. low-word (p .did) (g .did) i ∷ low-word (p .sdid) (g .sdid) i ∷ low-word (length (p .user)) (g .many) i
-      ∷ low-words (p .user) (g .user) i ++ low (checkOf p) ∷ [])
+      ∷ map-low (p .user) (g .user) i ++ low (checkOf p) ∷ [])
 
   body-there : (ws r : List ℕ) (at end : ℕ) → drop at ws ≡ words p ++ r → end ≡ at + bytesOf p
       → map low (take (end - (at + 3)) (drop (at + 3) ws)) ≡ behind p

@@ -24,7 +24,8 @@ use Rattle.rules.specs.Numbers.{Outcome, listed, refused, also, unless, Row, pa
 use Rattle.rules.specs.Reading.{packetOfBytes, lineFault, bytesFault, stringFault, lead, carried, frontBytes, carriersFit, packsFault, packsEnd, afterCarriers, packRow, inOrder}
 use Rattle.rules.proofs.Basics.{never, both, second-false, take-bytes, drop-bytes, joined-append, all-append}
 use Rattle.rules.proofs.Strings.{danc-length, itemOf, bytes-laid, string-room}
-use Rattle.rules.proofs.Packs.{flat-fives, flat-length}
+use Rattle.rules.proofs.Packs.{flat-fives, flat-length, lead-within}
+use Rattle.danc.proofs.Validation.{fault-small}
 use Rattle.packing1.specs.Open.{packsAt, Within, used, orderFrom, fits, PacksEnd, allCarriers, Moved, CarriersOpened, PacketOpened, codeOf, Opens, packetsFrom, packetsOfFives}
 
 -- ---- fill
@@ -225,14 +226,6 @@ module _ (us : List ℕ) (at total r : ℕ) (h : at + 5 ≤ total) (l : total �
     order-wrong e = sym (rest-is ∙ ap (λ (b : Bool). cond b (at + 5 * 0) 1) e)
 
 -- ---- carriers
-
-lead-within : (ps : List Five) → lead ps ≤ length ps
-lead-within [] = omega arith
-lead-within (p ∷ ps) = go (eqb (p .b0) 0xE2) (lead-within ps)
-  where
-    go : (t : Bool) → lead ps ≤ length ps → cond t (suc (lead ps)) 0 ≤ suc (length ps)
-    go true h = omega arith
-    go false h = omega arith
 
 -- no carrier stands behind the carriers in front
 lead-then : (ps : List Five) → lead (drop (lead ps) ps) ≡ 0
@@ -690,18 +683,6 @@ prefix-fault y (a ∷ b ∷ c ∷ []) h = absurd (omega arith)
 prefix-fault y (a ∷ b ∷ c ∷ d ∷ []) h = absurd (omega arith)
 prefix-fault y (a ∷ b ∷ c ∷ d ∷ e ∷ []) h = absurd (omega arith)
 prefix-fault y (a ∷ b ∷ c ∷ d ∷ e ∷ n ∷ t) h = prefix-whole y a b c d e n t (omega arith)
-
-fault-small : (y : System) (s : List ℕ) → stringFault y s ≤ 16
-unfolding stringFault bytesFault
-fault-small y s =
-    go (ltb (length s) 7 || ltb (length s) (getD s 5 0 + 7)) (not (eqb (getD s (getD s 5 0 + 6) 0) (checkOf (packetOfBytes s) % 256)))
-    (lineFault y (getD s 0 0) (getD s 1 0))
-  where
-    go : (a b c : Bool) → cond a 14 (cond b 15 (cond c 16 0)) ≤ 16
-    go true b c = omega arith
-    go false true c = omega arith
-    go false false true = omega arith
-    go false false false = omega arith
 
 -- ---- starters and carriers before fill
 

@@ -186,7 +186,8 @@ carriers-back (suc n) [] s m h e = absurd (omega arith)
 carriers-back (suc n) (p ∷ ps) s m h e =
     carriers-turn n p ps s m e (λ m′ l q. carriers-back n ps (drop 4 s) m′ l q) (eqb (p .b0) 0xE2) refl h
 
-lead-within : (ps : List Five) → lead ps ≤ length ps
+-- there are no more carriers in front than packs
+pub lead-within : (ps : List Five) → lead ps ≤ length ps
 lead-within [] = omega arith
 lead-within (p ∷ ps) = go (eqb (p .b0) 0xE2) (lead-within ps)
   where

@@ -31,7 +31,7 @@ numberOf (refused n i) = n
 
 -- ---- locations
 
-locations-length : (ps : List Packet) → length (locations ps) ≡ 2 * length ps
+pub locations-length : (ps : List Packet) → length (locations ps) ≡ 2 * length ps
 locations-length [] = refl
 locations-length (p ∷ ps) = let k = locations-length ps in omega arith
 
@@ -64,14 +64,14 @@ module _ (sys : ℕ) (ps : List Packet) where
   unfolding sheetOf
   first-back = refl
 
-  count-back : countIn S ≡ length ps
+  pub count-back : countIn S ≡ length ps
   unfolding sheetOf
   count-back = refl
 
-  locations-back : locationsIn S ≡ locations ps
+  pub locations-back : locationsIn S ≡ locations ps
   locations-back = rw (count-back, behind) (take-at (locations ps) (length W ∷ W) (2 * length ps) (locations-length ps))
 
-  words-back : wordsIn S ≡ W
+  pub words-back : wordsIn S ≡ W
   words-back =
       let n : 4 + 2 * length ps ≡ 3 + suc (2 * length ps) = omega arith in
       let l = locations-length ps in

@@ -47,7 +47,8 @@ are-words : (bs : List ℕ) → Bytes bs → areWords (map word bs) ≡ true
 are-words [] h = refl
 are-words (b ∷ bs) h = rw (is-word b (h 0)) (are-words bs (λ i. h (suc i)))
 
-map-low : (bs : List ℕ) → Bytes bs → map low (map word bs) ≡ bs
+-- the low bytes of bytes' words are the bytes
+pub map-low : (bs : List ℕ) → Bytes bs → map low (map word bs) ≡ bs
 map-low [] h = refl
 map-low (b ∷ bs) h = ap₂ (λ (x : ℕ) (t : List ℕ). x ∷ t) (low-word b (h 0)) (map-low bs (λ i. h (suc i)))
 

@@ -37,16 +37,13 @@ use Rattle.rules.specs.Laying.{
 }
 use Rattle.rules.specs.Lister.{testedOf, tested}
 use Rattle.rules.specs.declared.Tested.{Tested}
+use Rattle.danc.proofs.Laws.{rest-part}
 use Rattle.rules.proofs.Basics.{both, second-false}
 use Rattle.rules.proofs.Words.{words-enough, words-refused}
 use Rattle.frame.specs.Systems.{figuresOf}
 use Rattle.frame.specs.declared.Figures.{Figures}
 use Rattle.frame.proofs.Laws.{unknown-figures, known-figures}
 use Rattle.sheet.specs.Standing.{standingIn}
-
--- what is lent from a place to the end
-pub rest-part : (n : ℕ) (s : List ℕ) → take (length s - n) (drop n s) ≡ drop n s
-rest-part n s = take-all (length s - n) (drop n s) (le-of-eq (length-drop n s))
 
 -- ---- the shape
 

@@ -27,6 +27,7 @@ use Rattle.rules.specs.Lister.{testedOf}
 use Rattle.rules.specs.Demands.{Tests, Asked, Lays}
 use Rattle.rules.specs.declared.Laid.{Laid}
 use Rattle.rules.specs.declared.Tested.{Tested}
+use Rattle.rules.proofs.Sheets.{count-back, locations-back, words-back}
 use Rattle.rules.proofs.Basics.{written-back}
 use Rattle.rules.proofs.Words.{words-room}
 use Rattle.rules.proofs.Strings.{string-room}
@@ -38,7 +39,7 @@ use Rattle.frame.specs.Systems.{figuresOf}
 use Rattle.frame.specs.Bytes.{areaWith}
 use Rattle.frame.specs.declared.Figures.{Figures}
 use Rattle.frame.proofs.Laws.{each-system}
-use Rattle.sheet.proofs.Laws.{rest-part}
+use Rattle.danc.proofs.Laws.{rest-part}
 use Rattle.packing1.specs.Fives.{SectionsOf, LaysFives, LaysString}
 use Rattle.packing2.specs.Long.{Padded, longFits, longAfter, CountOf}
 use Rattle.vanc.specs.Lay.{LaysInto, lastTest, LaysList}
@@ -163,33 +164,17 @@ laid2 sys ls ws s us area after w v a = record { laid = done }
 
 -- ---- the sections of a sheet
 
-locations-length : (ps : List Packet) → length (locations ps) ≡ 2 * length ps
-locations-length [] = refl
-locations-length (p ∷ ps) = let k = locations-length ps in omega arith
-
 module _ (sys : ℕ) (ps : List Packet) where
-  behind : drop 3 (sheetOf sys ps) ≡ locations ps ++ length (allWords ps) ∷ allWords ps
-  unfolding sheetOf
-  behind = refl
-
-  count-back : countIn (sheetOf sys ps) ≡ length ps
-  unfolding sheetOf
-  count-back = refl
-
   -- what is lent as locations and as words
   locations-lent : take (3 + 2 * length ps - 3) (drop 3 (sheetOf sys ps)) ≡ locations ps
   locations-lent =
-      let e : 3 + 2 * length ps - 3 ≡ 2 * length ps = omega arith in
-      rw (e, behind) (take-at (locations ps) (length (allWords ps) ∷ allWords ps) (2 * length ps) (locations-length ps))
+      let e : 3 + 2 * length ps - 3 ≡ 2 * countIn (sheetOf sys ps) = let c = count-back sys ps in omega arith in
+      rw e (locations-back sys ps)
 
   words-lent : drop (3 + 2 * length ps + 1) (sheetOf sys ps) ≡ allWords ps
   words-lent =
-      let n : 3 + 2 * length ps + 1 ≡ 3 + suc (2 * length ps) = omega arith in
-      let l = locations-length ps in
-      let a : List ℕ = locations ps ++ (length (allWords ps) ∷ []) in
-      let m : length a ≡ suc (2 * length ps) = length-append (locations ps) (length (allWords ps) ∷ []) ∙ (omega arith) in
-      rw (n, ← drop-drop (suc (2 * length ps)) 3 (sheetOf sys ps), behind, ← append-assoc (locations ps) (length (allWords ps) ∷ []) (allWords ps))
-      (drop-at a (allWords ps) (suc (2 * length ps)) m)
+      let e : 3 + 2 * length ps + 1 ≡ 4 + 2 * countIn (sheetOf sys ps) = let c = count-back sys ps in omega arith in
+      rw e (words-back sys ps)
 
 -- what is lent of a sheet with p locations
 abbrev pub lentB : ℕ → List ℕ → List ℕ

@@ -17,6 +17,7 @@ use Rattle.rules.specs.Packet.{Packet, body, word, check, coded, checkOf, words
 use Rattle.rules.specs.Sheet.{locations, allWords, sheetOf}
 use Rattle.rules.specs.Numbers.{Outcome, listed, refused}
 use Rattle.rules.specs.Reading.{lineOf, flagsOf, packetOfBytes}
+use Rattle.rules.proofs.Sheets.{locations-length}
 use Rattle.rules.proofs.Basics.{second-false}
 use Rattle.rules.proofs.Words.{words-room}
 use Rattle.rules.proofs.Sheets.{sheet-length}
@@ -114,10 +115,6 @@ coded-more s out i w h l e inv =
     ∙ inv
 
 -- ---- locations
-
-locations-long : (ps : List Packet) → length (locations ps) ≡ 2 * length ps
-locations-long [] = refl
-locations-long (p ∷ ps) = let k = locations-long ps in omega arith
 
 -- the locations of the packets before `at` are written
 pub record Locating (s out : List ℕ) (at i : ℕ) : Type 0 where
@@ -296,7 +293,7 @@ module _ (sys packets : ℕ) (s out ls : List ℕ) (m : Measured packets s out) 
   counted = set before mid (length s)
 
   ls-long : length ls ≡ mid - 3
-  ls-long = ap length hl ∙ locations-long (packetsShown s) ∙ (let c = m .count in omega arith)
+  ls-long = ap length hl ∙ locations-length (packetsShown s) ∙ (let c = m .count in omega arith)
 
   pub before-long : length before ≡ length out
   before-long = let r = m .room in back-long out ls 1 sys packets mid (length s) (omega arith) (omega arith) ls-long
