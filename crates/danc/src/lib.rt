@@ -1,6 +1,7 @@
 // The DANC packet and the string: header bytes, a packet's faults, the walker's step, the validation of a string.
 // Document 01, "The packet", "Numbers given back" (5, 14 to 16), "The walker"; 001, figure 6. Quotations are from document 01.
 use frame::Line;
+use frame::StringByte;
 use frame::figures_of;
 use rules::Step;
 ghost use mathlib.Core.Path.{_≡_};
@@ -126,23 +127,23 @@ fn answer(number: u64, place: u64, length: u64) -> Step
 
 // "Each step gives the next packet's place and length, the string's end, or 14, 15 or 16". The place is any number that a caller
 // hands in: it is compared before it is an index.
-pub fn walk(system: u64, string: &[u8], place: u64) -> Step
-    ensures { λ r. ⌜ r ≡ walked system (now (string .entry)) place ⌝ }
+pub fn walk(system: u64, string: &[u8], place: StringByte) -> Step
+    ensures { λ r. ⌜ r ≡ walked system (now (string .entry)) (place .0) ⌝ }
 {
     let figures = figures_of(system);
     if figures.sequences == 0 {
         return answer(3, 0, 0);
     }
-    if string.len() as u64 <= place {
-        return answer(0, place, 0);
+    if string.len() as u64 <= place.0 {
+        return answer(0, place.0, 0);
     }
-    let at = place as usize;
+    let at = place.0 as usize;
     let last = figures.last_line;
     let number = fault(last, &string[at..]);
     if number != 0 {
-        return answer(number, place, 0);
+        return answer(number, place.0, 0);
     }
-    answer(0, place, wide(string[at + 5]) as u64 + 7)
+    answer(0, place.0, wide(string[at + 5]) as u64 + 7)
 }
 
 // "5 | .. reading: after 512 packets, not the end"

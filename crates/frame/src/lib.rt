@@ -15,7 +15,7 @@ pub struct Channel(pub u8);
 
 pub struct Sequence(pub u8);
 
-pub struct StringByte(pub usize);
+pub struct StringByte(pub u64);
 
 // How many sequences a channel has: no sequence's number.
 pub struct Sequences(pub u8);

@@ -3,5 +3,6 @@ mod laying;
 mod reading;
 
 pub use danc::walk;
+pub use frame::StringByte;
 pub use laying::lay;
 pub use reading::read;

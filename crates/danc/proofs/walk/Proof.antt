@@ -22,7 +22,7 @@ answer-requires-2 c κs = search needs
 returns-2 : tie.Need-returns-2
 returns-2 c =
     let d = c .before .before in
-    c .answer2 .ensures ∙ step-end _ _ (d .before .before .figures-of .ensures) _ _ (d .if1 .left) (c .before .if2 .taken)
+    c .answer2 .ensures ∙ step-end _ _ (d .before .before .before .figures-of .ensures) _ _ (d .before .if1 .left) (c .before .if2 .taken)
 
 sub-fault : tie.Need-sub-fault
 sub-fault c = search needs
@@ -43,9 +43,9 @@ returns-3 : tie.Need-returns-3
 returns-3 c =
     let f = c .before .before in
     let d = f .before .before .before in
-    let a = d .before .before .before .figures-of in
+    let a = d .before .before .before .before .figures-of in
     c .answer3 .ensures
-    ∙ step-fault _ _ (a .ensures) _ _ (d .before .if1 .left) (d .if2 .left) _ (f .fault .ensures _ (last-of _ _ (a .ensures))) (c .before .if3 .taken)
+    ∙ step-fault _ _ (a .ensures) _ _ (d .before .before .if1 .left) (d .if2 .left) _ (f .fault .ensures _ (last-of _ _ (a .ensures))) (c .before .if3 .taken)
 
 add-wide : tie.Need-add-wide
 add-wide c = search needs
@@ -53,8 +53,8 @@ add-wide c = search needs
 shared-slice-read-wide : tie.Need-shared-slice-read-wide
 shared-slice-read-wide c =
     let f = c .before .before in
-    let s = f .before .before .before .before .before .before .before .before in
-    omega (arith, part-room (lastOnly _) (s .args .string .now) (s .args .place) _ (f .fault .ensures (lastOnly _) refl) (c .before .if3 .left))
+    let s = f .before .before .before .before .before .before .before .before .before in
+    omega (arith, part-room (lastOnly _) (s .args .string .now) (s .args .place .0) _ (f .fault .ensures (lastOnly _) refl) (c .before .if3 .left))
 
 wide-requires : tie.Need-wide-requires
 wide-requires c κs = search needs
@@ -69,9 +69,9 @@ returns-4 : tie.Need-returns-4
 returns-4 c =
     let f = c .before .before .before .before in
     let d = f .before .before .before in
-    let a = d .before .before .before .figures-of in
+    let a = d .before .before .before .before .figures-of in
     c .answer4 .ensures
-    ∙ step-packet _ _ (a .ensures) _ _ (d .before .if1 .left) (d .if2 .left) _ (f .fault .ensures _ (last-of _ _ (a .ensures)))
+    ∙ step-packet _ _ (a .ensures) _ _ (d .before .before .if1 .left) (d .if2 .left) _ (f .fault .ensures _ (last-of _ _ (a .ensures)))
     (c .before .before .before .if3 .left) _ (c .before .wide .ensures .0)
 
 pub walk-spec : {M : Type 1} → statement M
