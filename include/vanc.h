@@ -1,0 +1,102 @@
+/*
+ * Flettishum: the ancillary packets of a video frame, laid into the VAUX blocks of a 100 Mb/s DV frame (SMPTE 375M) and read out of
+ * them again. Link with libvanc.a.
+ *
+ * Every call answers, whatever the numbers and bytes that it is given. `number` 0 is success; any other number is a refusal, and `place`
+ * says where:
+ *
+ *    1  packing is neither 1 nor 2                                               0
+ *    2  the sheet's counts do not agree with its length                          0
+ *    3  system not 1 (1080/60i), 2 (1080/50i) or 3 (720/60p)                     0
+ *    4  the area's length is not the system's                                    0
+ *    5  more than 512 packets                                                    0 on laying, 512 on reading
+ *    6  line or flags out of range                                               the location
+ *    7  fewer than 7 words left, or no 000h 3FFh 3FFh                            the packet
+ *    8  a word from DID to the last user word is not its byte with parity        the packet
+ *    9  fewer than DC + 7 words left                                             the packet
+ *   10  checksum word wrong                                                      the packet
+ *   11  packets and locations differ in number                                   0
+ *   12  more than the frame has room for in that packing                         0
+ *   13  the packs are not laid by the rules                                      0
+ *   14  a packet's length or its fill is wrong                                   the packet (walking: the string byte where it starts)
+ *   15  a packet's stored checksum byte is wrong                                 the same
+ *   16  a packet has a line that is 0 or past the last                           the same
+ *   17  the sheet is longer than its buffer                                      0
+ *
+ * Packets and locations count from 0. Where several apply, the tests are made in a fixed order and the first is named.
+ *
+ * Pointers: each points to as many numbers or bytes as its length says, also where that is 0, so none is null; what a call writes
+ * does not overlap what it reads. A call keeps no pointer, allocates nothing and has no state: calls may run side by side. It takes
+ * less than 64 KB of stack.
+ */
+#ifndef VANC_H
+#define VANC_H
+
+#include <stddef.h>
+#include <stdint.h>
+
+#ifdef __cplusplus
+extern "C" {
+#endif
+
+/* A frame's area of VAUX blocks, in bytes, and the longest sheet of a frame, in numbers. */
+#define VANC_AREA_1080_60I 9600
+#define VANC_AREA_1080_50I 11520
+#define VANC_AREA_720_60P 9600
+
+/* What laying gives back. On refusal packs and bytes are 0. */
+typedef struct {
+    uint64_t number;
+    uint64_t place;
+    uint64_t packs; /* packs laid */
+    uint64_t bytes; /* string bytes: those of all packets */
+} vanc_laid;
+
+/* What reading gives back. On refusal packing, packets and numbers are 0. */
+typedef struct {
+    uint64_t number;
+    uint64_t place;
+    uint64_t packing; /* 1 or 2; 0 where there is no packet */
+    uint64_t packets;
+    uint64_t numbers; /* the sheet's length */
+} vanc_read_back;
+
+/* What a step gives back. A packet: 0, its place, its length. The end: 0, the place, 0. A refusal: its number, its place, 0. */
+typedef struct {
+    uint64_t number;
+    uint64_t place;
+    uint64_t length;
+} vanc_step;
+
+/*
+ * Lays a sheet's packets into an area. The sheet is in the machine's own order of bytes: 1, system; P, then P pairs of line (0 for
+ * none) and flags (bit 0 FI, bit 1 YCF); W, then W ten-bit words, packets back to back.
+ *
+ * packing   1: packs of five bytes; 2: one long pack per block.
+ * area      the VAUX blocks of one frame, 80 bytes each, by channel, sequence and block.
+ *
+ * Success: the area's user bytes are the packets' and fill, every other byte is as it was. Refusal (1 to 12): the area is unchanged.
+ * The sheet is only read.
+ */
+vanc_laid vanc_lay(const uint16_t *sheet, size_t sheet_len, uint64_t packing, uint8_t *area, size_t area_len);
+
+/*
+ * Reads an area's packets into a sheet, in either packing.
+ *
+ * Success: the first `numbers` numbers of `sheet` are the sheet, those behind it are as they were. Refusal (3, 4, 5, 13 to 17): the
+ * buffer is unchanged. 4 + 1024 + 9360 numbers are room for every frame. The area is only read.
+ */
+vanc_read_back vanc_read(uint64_t system, const uint8_t *area, size_t area_len, uint16_t *sheet, size_t sheet_len);
+
+/*
+ * One step over a string of packets without fill: what stands at `place`, a number of bytes from the string's start. Begin with place
+ * 0, and go on with place + length while length is not 0. Refusals: 3 (place 0), 14, 15, 16. A place at the string's end or past it
+ * is the end. The string is only read.
+ */
+vanc_step vanc_walk(uint64_t system, const uint8_t *string, size_t string_len, uint64_t place);
+
+#ifdef __cplusplus
+}
+#endif
+
+#endif
