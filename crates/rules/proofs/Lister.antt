@@ -64,7 +64,7 @@ pub file-read : (s : List ℕ) → numbersOf (fileOf s) ≡ s
 file-read [] = refl
 file-read (n ∷ s) = ap₂ (λ (m : ℕ) (t : List ℕ). m ∷ t) (let e : n / 256 * 256 + n % 256 ≡ n = omega arith in e) (file-read s)
 
-file-length : (s : List ℕ) → length (fileOf s) ≡ 2 * length s
+pub file-length : (s : List ℕ) → length (fileOf s) ≡ 2 * length s
 file-length [] = refl
 file-length (n ∷ s) = let k = file-length s in omega arith
 

@@ -7,9 +7,6 @@ use borrow.Author.Needs.{needs}
 use Rattle.listing.proofs.listing.Statement.{statement}
 use Rattle.listing.proofs.listing.Tie as tie
 
-slice-aggregate-text-of : tie.Need-slice-aggregate-text-of
-slice-aggregate-text-of c = search needs
-
 text-of-requires : tie.Need-text-of-requires
 text-of-requires c κs = search needs
 
@@ -18,9 +15,9 @@ same-length c = search needs
 
 returns : tie.Need-returns
 returns c =
-    let k = c .before .before .before .text-of .kept .1 .1 .0 in
-    let h = c .before .before .before .text-of .ensures in
+    let k = c .before .before .text-of .kept .1 .1 .0 in
+    let h = c .before .before .text-of .ensures in
     (omega arith, sym (length-take-le _ _ (omega arith)))
 
 pub listing-spec : {M : Type 1} → statement M
-listing-spec = tie.close (tie.spec slice-aggregate-text-of text-of-requires same-length returns)
+listing-spec = tie.close (tie.spec text-of-requires same-length returns)

@@ -16,50 +16,35 @@ put-refusal-requires c κs = search needs
 same-length : tie.Need-same-length
 same-length c = search needs
 
-same-length-2 : tie.Need-same-length-2
-same-length-2 c = search needs
-
 returns : tie.Need-returns
 returns c = search needs
 
 put-first-requires : tie.Need-put-first-requires
 put-first-requires c κs = search needs
 
-same-length-3 : tie.Need-same-length-3
-same-length-3 c = search needs
-
-same-length-4 : tie.Need-same-length-4
-same-length-4 c = search needs
+same-length-2 : tie.Need-same-length-2
+same-length-2 c = search needs
 
 returns-2 : tie.Need-returns-2
 returns-2 c = search needs
 
-same-length-5 : tie.Need-same-length-5
-same-length-5 c = search needs
-
-same-length-6 : tie.Need-same-length-6
-same-length-6 c = search needs
+same-length-3 : tie.Need-same-length-3
+same-length-3 c = search needs
 
 returns-3 : tie.Need-returns-3
 returns-3 c = search needs
 
-slice-reshare-prefix-put-rows : tie.Need-slice-reshare-prefix-put-rows
-slice-reshare-prefix-put-rows c = search needs
-
 slice-aggregate-put-rows : tie.Need-slice-aggregate-put-rows
 slice-aggregate-put-rows c =
     let k = c .before .before .before .before .before .before .before .before .before .before .before .before .before .tested .kept .1 .0 in
-    let h = c .before .before .before .before .if2 .left in
+    let h = c .before .before .before .before .before .before .if2 .left in
     sym (length-take-le _ (c .before .before .before .before .before .before .before .before .before .before .before .before .before .tested .last .1 .0) (omega arith))
 
 put-rows-requires : tie.Need-put-rows-requires
 put-rows-requires c κs = search needs
 
-same-length-7 : tie.Need-same-length-7
-same-length-7 c = search needs
-
-same-length-8 : tie.Need-same-length-8
-same-length-8 c = search needs
+same-length-4 : tie.Need-same-length-4
+same-length-4 c = search needs
 
 returns-4 : tie.Need-returns-4
 returns-4 c = search needs
@@ -71,18 +56,13 @@ text-of-spec =
     tested-requires
     put-refusal-requires
     same-length
-    same-length-2
     returns
     put-first-requires
-    same-length-3
-    same-length-4
+    same-length-2
     returns-2
-    same-length-5
-    same-length-6
+    same-length-3
     returns-3
-    slice-reshare-prefix-put-rows
     slice-aggregate-put-rows
     put-rows-requires
-    same-length-7
-    same-length-8
+    same-length-4
     returns-4)

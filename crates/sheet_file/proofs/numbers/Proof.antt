@@ -1,4 +1,4 @@
--- `listing::decode` meets its contract: the numbers decoded so far are the first of the file's.
+-- `sheet_file::numbers` meets its contract: the numbers decoded so far are the first of the file's.
 -- Assumes nothing.
 use Prim.Native.Nat.{_-_, _/_, _≤_}
 use mathlib.Core.Path.{_≡_}
@@ -6,9 +6,9 @@ use native.Mathlib.Omega.{arith}
 use lib.ListN.{length, take}
 use borrow.Author.Needs.{needs}
 use Rattle.rules.specs.Lister.{numbersOf}
-use Rattle.listing.proofs.Laws.{decode-turn, decode-end}
-use Rattle.listing.proofs.decode.Statement.{statement}
-use Rattle.listing.proofs.decode.Tie as tie
+use Rattle.sheet_file.proofs.Laws.{numbers-turn, numbers-end}
+use Rattle.sheet_file.proofs.numbers.Statement.{statement}
+use Rattle.sheet_file.proofs.numbers.Tie as tie
 
 abbrev Inv-loop : tie.InvT-loop
 Inv-loop file s₀ n i₀ s i = (length s ≡ length s₀) × (i ≤ length file / 2) × (take i s ≡ take i (numbersOf file))
@@ -54,7 +54,7 @@ loop-again c =
     let r = c .before .before .before .before .before .before .before .pre in (
       search needs,
       omega arith,
-      decode-turn (a .file .now) (l .s) (l .i) (c .number .result) h (omega arith) (l .inv .2) (c .number .ensures),
+      numbers-turn (a .file .now) (l .s) (l .i) (c .number .result) h (omega arith) (l .inv .2) (c .number .ensures),
     )
 
 same-length : tie.Need-same-length Inv-loop μ-loop
@@ -63,10 +63,10 @@ same-length c = search needs
 returns : tie.Need-returns Inv-loop μ-loop
 returns c =
     let l = c .before .loop in
-    decode-end (c .before .before .before .before .args .file .now) (l .s) (l .i) (omega arith) (l .inv .2)
+    numbers-end (c .before .before .before .before .args .file .now) (l .s) (l .i) (omega arith) (l .inv .2)
 
-pub decode-spec : {M : Type 1} → statement M
-decode-spec =
+pub numbers-spec : {M : Type 1} → statement M
+numbers-spec =
     tie.close
     (tie.spec
     Inv-loop

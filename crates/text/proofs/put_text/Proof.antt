@@ -1,17 +1,20 @@
--- `listing::put_text` meets its contract: each byte put leaves the place within the buffer.
+-- `text::put_text` meets its contract: each byte put leaves the place within the buffer.
 -- Assumes nothing.
 use Prim.Native.Nat.{_-_, _≤_}
 use mathlib.Core.Path.{_≡_}
 use lib.ListN.{length}
 use borrow.Author.Needs.{needs}
-use Rattle.listing.proofs.put_text.Statement.{statement}
-use Rattle.listing.proofs.put_text.Tie as tie
+use Rattle.text.proofs.put_text.Statement.{statement}
+use Rattle.text.proofs.put_text.Tie as tie
 
 abbrev Inv-loop : tie.InvT-loop
 Inv-loop out₀ at text o₀ i₀ out o i = (length out ≡ length out₀) × (o ≤ length out)
 
 abbrev μ-loop : tie.MeasureT-loop
 μ-loop out₀ at text o₀ i₀ out o i = length text - i
+
+returns : tie.Need-returns Inv-loop μ-loop
+returns c = search needs
 
 loop-holds : tie.Need-loop-holds Inv-loop μ-loop
 loop-holds c = search needs
@@ -34,8 +37,8 @@ loop-again c = search needs
 same-length : tie.Need-same-length Inv-loop μ-loop
 same-length c = search needs
 
-returns : tie.Need-returns Inv-loop μ-loop
-returns c = search needs
+returns-2 : tie.Need-returns-2 Inv-loop μ-loop
+returns-2 c = search needs
 
 pub put-text-spec : {M : Type 1} → statement M
 put-text-spec =
@@ -43,6 +46,7 @@ put-text-spec =
     (tie.spec
     Inv-loop
     μ-loop
+    returns
     loop-holds
     shared-slice-read-put
     put-requires
@@ -50,4 +54,4 @@ put-text-spec =
     loop-less
     loop-again
     same-length
-    returns)
+    returns-2)

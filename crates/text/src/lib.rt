@@ -1,0 +1,70 @@
+// Lines of text that the programs print, made in a lent buffer so that each is written in one call. Each function puts its text at a place
+// and answers the place behind it; what has no room is left out, and no answer lies past the buffer.
+ghost use Prim.Native.Nat.{_≤_};
+ghost use lib.ListN.{length};
+
+pub fn put(out: &mut [u8], at: usize, b: u8) -> usize
+    ensures { λ r. ⌜ r ≤ length (now (out .entry)) ⌝ }
+{
+    if at < out.len() {
+        out[at] = b;
+        return at + 1;
+    }
+    out.len()
+}
+
+pub fn put_text(out: &mut [u8], at: usize, text: &[u8]) -> usize
+    ensures { λ r. ⌜ r ≤ length (now (out .entry)) ⌝ }
+{
+    if out.len() < at {
+        return out.len();
+    }
+    let mut o = at;
+    let mut i = 0;
+    while i < text.len() {
+        o = put(out, o, text[i]);
+        i += 1;
+    }
+    o
+}
+
+pub fn put_number(out: &mut [u8], at: usize, n: u64) -> usize
+    ensures { λ r. ⌜ r ≤ length (now (out .entry)) ⌝ }
+{
+    let mut digits = [0u8; 20];
+    let k = io::decimal(n, &mut digits);
+    put_text(out, at, &digits[..k])
+}
+
+fn digit(x: u8) -> u8 {
+    let d = x % 16;
+    if d < 10 {
+        return 48 + d;
+    }
+    55 + d
+}
+
+// "two upper-case hex digits"
+pub fn put_byte(out: &mut [u8], at: usize, x: u8) -> usize
+    ensures { λ r. ⌜ r ≤ length (now (out .entry)) ⌝ }
+{
+    let o = put(out, at, digit(x / 16));
+    put(out, o, digit(x))
+}
+
+// A label, and the number behind it.
+pub fn put_labelled(out: &mut [u8], at: usize, label: &[u8], n: u64) -> usize
+    ensures { λ r. ⌜ r ≤ length (now (out .entry)) ⌝ }
+{
+    let o = put_text(out, at, label);
+    put_number(out, o, n)
+}
+
+// "A refusal prints one line, as `refused 10 at 0`."
+pub fn put_refusal(out: &mut [u8], number: u64, place: u64) -> usize
+    ensures { λ r. ⌜ r ≤ length (now (out .entry)) ⌝ }
+{
+    let a = put_labelled(out, 0, b"refused ", number);
+    let b = put_labelled(out, a, b" at ", place);
+    put(out, b, b'\n')
+}
