@@ -1,39 +1,54 @@
 // What the programs that work on files share: numbers among the arguments, a file read whole, a file replaced whole, one line printed. What goes
 // wrong is said on standard error, with the file's name, and the caller does nothing more.
+ghost use Prim.Native.Nat.{_≤_};
+ghost use Rattle.io.specs.Counts.{Counts};
 use libc::STDERR_FILENO;
 use libc::STDOUT_FILENO;
 
-// No argument that is a number has this value: it has more digits than are read.
+// More than any number that is read from digits.
 pub const NOT_A_NUMBER: u64 = 18446744073709551615;
 
-// One more than a digit's place allows would wrap, so at most so many digits are read.
-const DIGITS: usize = 18;
+// From here on one more digit could wrap.
+const LARGE: u64 = 100000000000000000;
 
-// A number in decimal digits.
+// What a digit stands for; 10 for what is no digit.
+fn digit(b: u8) -> u64
+    ensures { λ r. ⌜ r ≤ 10 ⌝ }
+{
+    if b < b'0' {
+        return 10;
+    }
+    if b'9' < b {
+        return 10;
+    }
+    (b - b'0') as u64
+}
+
+// A number in decimal digits, of at most 18.
 pub fn number_of(digits: &[u8]) -> u64 {
     if digits.len() == 0 {
-        return NOT_A_NUMBER;
-    }
-    if DIGITS < digits.len() {
         return NOT_A_NUMBER;
     }
     let mut n = 0;
     let mut i = 0;
     while i < digits.len() {
-        let d = digits[i];
-        if d < b'0' {
+        let d = digit(digits[i]);
+        if 9 < d {
             return NOT_A_NUMBER;
         }
-        if b'9' < d {
+        if LARGE <= n {
             return NOT_A_NUMBER;
         }
-        n = 10 * n + (d - b'0') as u64;
+        n = 10 * n + d;
         i += 1;
     }
     n
 }
 
-// Reads until the buffer is full or the file ends: how many bytes, or more than the buffer has where a read fails.
+// More than any buffer has.
+pub const NOT_READ: usize = 18446744073709551615;
+
+// Reads until the buffer is full or the file ends: how many bytes, or `NOT_READ` where a read fails.
 fn read_all(fd: i32, buf: &mut [u8]) -> usize {
     let mut at = 0;
     while at < buf.len() {
@@ -41,16 +56,14 @@ fn read_all(fd: i32, buf: &mut [u8]) -> usize {
         if got < 0 {
             return NOT_READ;
         }
-        if got == 0 {
+        let n = io::count(got, &buf[at..]);
+        if n == 0 {
             return at;
         }
-        at += got as usize;
+        at += n;
     }
     at
 }
-
-// More than any buffer has.
-pub const NOT_READ: usize = 18446744073709551615;
 
 // The bytes of a file, as many as the buffer has room for, at its start: how many. `NOT_READ` where it cannot be read, which is then said.
 pub fn read_file(path: &[u8], buf: &mut [u8]) -> usize {
@@ -67,19 +80,18 @@ pub fn read_file(path: &[u8], buf: &mut [u8]) -> usize {
     n
 }
 
-// The name of the file that is written beside a file: its own, and the number of this process, so that two runs do not meet.
-fn name_beside(path: &[u8], name: &mut [u8]) -> usize {
+// The name of the file that is written beside a file: its own and four bytes by chance, so that two runs do not meet.
+fn name_beside(path: &[u8], name: &mut [u8]) -> usize
+    ensures { λ r. ⌜ Counts r (now (name .exit)) ⌝ }
+{
+    let mut chance = [0u8; 4];
+    libc::getentropy(&mut chance);
     let a = text::put_text(name, 0, path);
-    let b = text::put_labelled(name, a, b".new-", process());
-    b
-}
-
-fn process() -> u64 {
-    let pid = libc::getpid();
-    if pid < 0 {
-        return 0;
-    }
-    pid as u64
+    let b = text::put_text(name, a, b".new-");
+    let c = text::put_byte(name, b, chance[0]);
+    let d = text::put_byte(name, c, chance[1]);
+    let e = text::put_byte(name, d, chance[2]);
+    text::put_byte(name, e, chance[3])
 }
 
 // Whether all the bytes are on the disk.
@@ -119,7 +131,7 @@ pub fn replace_file(path: &[u8], bytes: &[u8]) -> bool {
     replace_by(path, &name[..n], bytes)
 }
 
-// What is wrong with a file, or how a program is called.
+// What is wrong with a file, or with how a program is called.
 pub fn say(what: &[u8], why: &[u8]) {
     io::write_all(STDERR_FILENO, what);
     io::write_all(STDERR_FILENO, why);
@@ -130,4 +142,11 @@ pub fn print(line: &[u8]) {
     if !io::write_all(STDOUT_FILENO, line) {
         os::fail(b"standard output");
     }
+}
+
+// "A refusal prints one line"
+pub fn print_refusal(number: u64, place: u64) {
+    let mut line = [0u8; 64];
+    let n = text::put_refusal(&mut line, number, place);
+    print(&line[..n]);
 }

@@ -20,7 +20,7 @@ fn tested(file: &[u8], s: &mut [u16; 32768]) -> Tested
 // ---- the text
 
 fn put_spaced(out: &mut [u8], at: usize, n: u64) -> usize
-    ensures { λ r. ⌜ r ≤ length (now (out .entry)) ⌝ }
+    ensures { λ r. ⌜ Counts r (now (out .exit)) ⌝ }
 {
     let o = text::put_number(out, at, n);
     text::put(out, o, b' ')
@@ -32,7 +32,7 @@ fn low(w: u16) -> u8 {
 
 // "packet, line, flags"
 fn put_location(out: &mut [u8], at: usize, k: u64, line: u16, flags: u16) -> usize
-    ensures { λ r. ⌜ r ≤ length (now (out .entry)) ⌝ }
+    ensures { λ r. ⌜ Counts r (now (out .exit)) ⌝ }
 {
     let a = put_spaced(out, at, k);
     let b = put_spaced(out, a, line as u64);
@@ -41,7 +41,7 @@ fn put_location(out: &mut [u8], at: usize, k: u64, line: u16, flags: u16) -> usi
 
 // "DID and SDID as two upper-case hex digits, DC"
 fn put_packet(out: &mut [u8], at: usize, did: u8, sdid: u8, dc: u8) -> usize
-    ensures { λ r. ⌜ r ≤ length (now (out .entry)) ⌝ }
+    ensures { λ r. ⌜ Counts r (now (out .exit)) ⌝ }
 {
     let a = text::put_byte(out, at, did);
     let b = text::put(out, a, b' ');
@@ -54,7 +54,7 @@ fn put_packet(out: &mut [u8], at: usize, did: u8, sdid: u8, dc: u8) -> usize
 // "Row: packet, line, flags, DID and SDID as two upper-case hex digits, DC.": of packet k, whose location stands at l and whose words at w
 fn put_row(out: &mut [u8], at: usize, s: &[u16], k: usize, l: usize, w: usize) -> usize
     requires { ⌜ (l + 2 ≤ length (now s)) × (w + 6 ≤ length (now s)) ⌝ }
-    ensures { λ r. ⌜ r ≤ length (now (out .entry)) ⌝ }
+    ensures { λ r. ⌜ Counts r (now (out .exit)) ⌝ }
 {
     let o = put_location(out, at, k as u64, s[l], s[l + 1]);
     put_packet(out, o, low(s[w + 3]), low(s[w + 4]), low(s[w + 5]))
@@ -63,7 +63,7 @@ fn put_row(out: &mut [u8], at: usize, s: &[u16], k: usize, l: usize, w: usize) -
 // A row for each packet of a sheet that has passed. (The two tests never fail then; they keep the loop safe on any numbers.)
 fn put_rows(out: &mut [u8], from: usize, s: &[u16], packets: usize) -> usize
     requires { ⌜ (from ≤ length (now out)) × (packets ≤ 65535) ⌝ }
-    ensures { λ r. ⌜ r ≤ length (now (out .entry)) ⌝ }
+    ensures { λ r. ⌜ Counts r (now (out .exit)) ⌝ }
 {
     let mut at = from;
     let mut k = 0;
@@ -85,7 +85,7 @@ fn put_rows(out: &mut [u8], from: usize, s: &[u16], packets: usize) -> usize
 
 // "Header: system, packets, string bytes, packs in packing 1."
 fn put_first(out: &mut [u8], t: Tested) -> usize
-    ensures { λ r. ⌜ r ≤ length (now (out .entry)) ⌝ }
+    ensures { λ r. ⌜ Counts r (now (out .exit)) ⌝ }
 {
     let a = text::put_labelled(out, 0, b"system ", t.system);
     let b = text::put_labelled(out, a, b" packets ", t.packets);
@@ -96,7 +96,7 @@ fn put_first(out: &mut [u8], t: Tested) -> usize
 
 // The text of a file whose numbers stand in s.
 fn text_of(file: &[u8], s: &mut [u16; 32768], out: &mut [u8]) -> usize
-    ensures { λ r. ⌜ r ≤ length (now (out .entry)) ⌝ }
+    ensures { λ r. ⌜ Counts r (now (out .exit)) ⌝ }
 {
     let t = tested(file, s);
     if t.number != 0 {

@@ -138,6 +138,39 @@ reads sys area sheet r after b er ea =
         let w = accepted-only sys k area l b (length sheet) ps q in
         (w .0, ps, w .1, w .2)
 
+-- the sheet that is read has room in its buffer
+pub read-within : (sys : ℕ) (area sheet : List ℕ) (r : ReadBack) (after : List ℕ) → Reads sys area sheet r after → r .numbers ≤ length sheet
+unfolding read reading
+read-within sys area sheet r after d = subst (λ (x : ReadBack). x .numbers ≤ length sheet) (sym (d .answer)) (within (reading sys area (length sheet)) refl)
+  where
+    y : System
+    y = system sys
+
+    ub : List ℕ
+    ub = userBytesIn y area
+
+    passed : (n : ℕ) (t : Bool) (o : Outcome) (ps : List Packet) → unless n t o ≡ listed ps → o ≡ listed ps
+    passed n true o ps e = e
+    passed n false o ps e = never (cc)
+
+    fitted : (qs ps : List Packet) (t : Bool) → leb (length (sheetOf sys qs)) (length sheet) ≡ t → unless 17 t (listed qs) ≡ listed ps
+        → length (sheetOf sys ps) ≤ length sheet
+    fitted qs ps true q e =
+        let p : qs ≡ ps = cc in
+        subst (λ (rs : List Packet). length (sheetOf sys rs) ≤ length sheet) p (leb-true (length (sheetOf sys qs)) (length sheet) q)
+    fitted qs ps false q e = never (cc)
+
+    users : (o : Outcome) (ps : List Packet) → andThen o (λ (qs : List Packet). unless 17 (leb (length (sheetOf sys qs)) (length sheet)) (listed qs)) ≡ listed ps
+        → length (sheetOf sys ps) ≤ length sheet
+    users (refused n i) ps e = never (cc)
+    users (listed qs) ps e = fitted qs ps (leb (length (sheetOf sys qs)) (length sheet)) refl e
+
+    within : (o : Outcome) → reading sys area (length sheet) ≡ o → readBackOf sys (packingFound ub) o .numbers ≤ length sheet
+    within (refused n i) e = omega arith
+    within (listed ps) e =
+        users (packetsOfUserBytes y (blockSizes y) ub) ps
+        (passed 4 (eqb (length area) (areaSize y)) _ ps (passed 3 (known sys) _ ps e))
+
 -- ---- there and back
 
 -- what was laid is read: the sheet stands at the start of the buffer, number for number, and the rest of it is unchanged

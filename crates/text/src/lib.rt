@@ -1,10 +1,9 @@
 // Lines of text that the programs print, made in a lent buffer so that each is written in one call. Each function puts its text at a place
 // and answers the place behind it; what has no room is left out, and no answer lies past the buffer.
-ghost use Prim.Native.Nat.{_≤_};
-ghost use lib.ListN.{length};
+ghost use Rattle.io.specs.Counts.{Counts};
 
 pub fn put(out: &mut [u8], at: usize, b: u8) -> usize
-    ensures { λ r. ⌜ r ≤ length (now (out .entry)) ⌝ }
+    ensures { λ r. ⌜ Counts r (now (out .exit)) ⌝ }
 {
     if at < out.len() {
         out[at] = b;
@@ -14,7 +13,7 @@ pub fn put(out: &mut [u8], at: usize, b: u8) -> usize
 }
 
 pub fn put_text(out: &mut [u8], at: usize, text: &[u8]) -> usize
-    ensures { λ r. ⌜ r ≤ length (now (out .entry)) ⌝ }
+    ensures { λ r. ⌜ Counts r (now (out .exit)) ⌝ }
 {
     if out.len() < at {
         return out.len();
@@ -29,7 +28,7 @@ pub fn put_text(out: &mut [u8], at: usize, text: &[u8]) -> usize
 }
 
 pub fn put_number(out: &mut [u8], at: usize, n: u64) -> usize
-    ensures { λ r. ⌜ r ≤ length (now (out .entry)) ⌝ }
+    ensures { λ r. ⌜ Counts r (now (out .exit)) ⌝ }
 {
     let mut digits = [0u8; 20];
     let k = io::decimal(n, &mut digits);
@@ -46,7 +45,7 @@ fn digit(x: u8) -> u8 {
 
 // "two upper-case hex digits"
 pub fn put_byte(out: &mut [u8], at: usize, x: u8) -> usize
-    ensures { λ r. ⌜ r ≤ length (now (out .entry)) ⌝ }
+    ensures { λ r. ⌜ Counts r (now (out .exit)) ⌝ }
 {
     let o = put(out, at, digit(x / 16));
     put(out, o, digit(x))
@@ -54,7 +53,7 @@ pub fn put_byte(out: &mut [u8], at: usize, x: u8) -> usize
 
 // A label, and the number behind it.
 pub fn put_labelled(out: &mut [u8], at: usize, label: &[u8], n: u64) -> usize
-    ensures { λ r. ⌜ r ≤ length (now (out .entry)) ⌝ }
+    ensures { λ r. ⌜ Counts r (now (out .exit)) ⌝ }
 {
     let o = put_text(out, at, label);
     put_number(out, o, n)
@@ -62,7 +61,7 @@ pub fn put_labelled(out: &mut [u8], at: usize, label: &[u8], n: u64) -> usize
 
 // "A refusal prints one line, as `refused 10 at 0`."
 pub fn put_refusal(out: &mut [u8], number: u64, place: u64) -> usize
-    ensures { λ r. ⌜ r ≤ length (now (out .entry)) ⌝ }
+    ensures { λ r. ⌜ Counts r (now (out .exit)) ⌝ }
 {
     let a = put_labelled(out, 0, b"refused ", number);
     let b = put_labelled(out, a, b" at ", place);

@@ -1,65 +1,52 @@
+-- `files::number_of` meets its contract: no sum wraps.
+-- Assumes nothing.
+use Prim.Native.Nat.{_-_, _<_}
+use lib.ListN.{length}
+use borrow.Author.Needs.{needs}
 use Rattle.files.proofs.number_of.Statement.{statement}
 use Rattle.files.proofs.number_of.Tie as tie
-use Rattle.files.proofs.number_of.Reads as reads
-use Rattle.files.proofs.number_of.Lts as lts
 
 abbrev Inv-loop : tie.InvT-loop
-Inv-loop digits n₀ i₀ n i = ?
+Inv-loop digits n₀ i₀ n i = n < 1000000000000000000
 
 abbrev μ-loop : tie.MeasureT-loop
-μ-loop digits n₀ i₀ n i = ?
+μ-loop digits n₀ i₀ n i = length digits - i
 
--- src/lib.rt:15:9
 returns : tie.Need-returns Inv-loop μ-loop
-returns c = ?
+returns c = search needs
 
--- src/lib.rt:18:9
-returns-2 : tie.Need-returns-2 Inv-loop μ-loop
-returns-2 c = ?
-
--- src/lib.rt:22:5
 loop-holds : tie.Need-loop-holds Inv-loop μ-loop
-loop-holds c = ?
+loop-holds c = search needs
 
--- src/lib.rt:23:17
-shared-slice-read-d : tie.Need-shared-slice-read-d Inv-loop μ-loop
-shared-slice-read-d c = ?
+shared-slice-read-digit : tie.Need-shared-slice-read-digit Inv-loop μ-loop
+shared-slice-read-digit c = search needs
 
--- src/lib.rt:25:13
+digit-requires : tie.Need-digit-requires Inv-loop μ-loop
+digit-requires c κs = search needs
+
+returns-2 : tie.Need-returns-2 Inv-loop μ-loop
+returns-2 c = search needs
+
 returns-3 : tie.Need-returns-3 Inv-loop μ-loop
-returns-3 c = ?
+returns-3 c = search needs
 
--- src/lib.rt:28:13
-returns-4 : tie.Need-returns-4 Inv-loop μ-loop
-returns-4 c = ?
-
--- src/lib.rt:30:13
 mul-n : tie.Need-mul-n Inv-loop μ-loop
-mul-n c = ?
+mul-n c = search needs
 
--- src/lib.rt:30:22
-cast-n : tie.Need-cast-n Inv-loop μ-loop
-cast-n c = ?
-
--- src/lib.rt:30:13
 add-n : tie.Need-add-n Inv-loop μ-loop
-add-n c = ?
+add-n c = search needs
 
--- src/lib.rt:31:9
 add-i : tie.Need-add-i Inv-loop μ-loop
-add-i c = ?
+add-i c = search needs
 
--- src/lib.rt:22:5
 loop-less : tie.Need-loop-less Inv-loop μ-loop
-loop-less c = ?
+loop-less c = search needs
 
--- src/lib.rt:22:5
 loop-again : tie.Need-loop-again Inv-loop μ-loop
-loop-again c = ?
+loop-again c = search needs
 
--- src/lib.rt:13:1
-returns-5 : tie.Need-returns-5 Inv-loop μ-loop
-returns-5 c = ?
+returns-4 : tie.Need-returns-4 Inv-loop μ-loop
+returns-4 c = search needs
 
 pub number-of-spec : {M : Type 1} → statement M
 number-of-spec =
@@ -68,15 +55,14 @@ number-of-spec =
     Inv-loop
     μ-loop
     returns
-    returns-2
     loop-holds
-    shared-slice-read-d
+    shared-slice-read-digit
+    digit-requires
+    returns-2
     returns-3
-    returns-4
     mul-n
-    cast-n
     add-n
     add-i
     loop-less
     loop-again
-    returns-5)
+    returns-4)

@@ -1,74 +1,71 @@
+-- `files::read_all` meets its contract: each read fills more of the buffer.
+-- Assumes nothing.
+use Prim.Native.Nat.{_-_, _≤_}
+use mathlib.Core.Path.{_≡_}
+use lib.ListN.{length}
+use borrow.Author.Needs.{needs}
 use Rattle.files.proofs.read_all.Statement.{statement}
 use Rattle.files.proofs.read_all.Tie as tie
-use Rattle.files.proofs.read_all.Reads as reads
-use Rattle.files.proofs.read_all.Lts as lts
-use Rattle.libc.proofs.read.Reads as read-reads
 
 abbrev Inv-loop : tie.InvT-loop
-Inv-loop fd buf₀ at₀ buf at = ?
+Inv-loop fd buf₀ at₀ buf at = (length buf ≡ length buf₀) × (at ≤ length buf)
 
 abbrev μ-loop : tie.MeasureT-loop
-μ-loop fd buf₀ at₀ buf at = ?
+μ-loop fd buf₀ at₀ buf at = length buf₀ - at
 
--- src/lib.rt:39:5
 loop-holds : tie.Need-loop-holds Inv-loop μ-loop
-loop-holds c = ?
+loop-holds c = search needs
 
--- src/lib.rt:40:34
 sub-read : tie.Need-sub-read Inv-loop μ-loop
-sub-read c = ?
+sub-read c = search needs
 
--- src/lib.rt:40:34
 part-read-start : tie.Need-part-read-start Inv-loop μ-loop
-part-read-start c = ?
+part-read-start c = search needs
 
--- src/lib.rt:40:34
 part-read-end : tie.Need-part-read-end Inv-loop μ-loop
-part-read-end c = ?
+part-read-end c = search needs
 
--- src/lib.rt:40:13
 read-requires : tie.Need-read-requires Inv-loop μ-loop
-read-requires c κs = ?
+read-requires c κs = search needs
 
--- src/lib.rt:42:13
 same-length : tie.Need-same-length Inv-loop μ-loop
-same-length c = ?
+same-length c = search needs
 
--- src/lib.rt:42:13
 returns : tie.Need-returns Inv-loop μ-loop
-returns c = ?
+returns c = search needs
 
--- src/lib.rt:45:13
+sub-count : tie.Need-sub-count Inv-loop μ-loop
+sub-count c = search needs
+
+part-count-start : tie.Need-part-count-start Inv-loop μ-loop
+part-count-start c = search needs
+
+part-count-end : tie.Need-part-count-end Inv-loop μ-loop
+part-count-end c = search needs
+
+count-requires : tie.Need-count-requires Inv-loop μ-loop
+count-requires c κs = search needs
+
 same-length-2 : tie.Need-same-length-2 Inv-loop μ-loop
-same-length-2 c = ?
+same-length-2 c = search needs
 
--- src/lib.rt:45:13
 returns-2 : tie.Need-returns-2 Inv-loop μ-loop
-returns-2 c = ?
+returns-2 c = search needs
 
--- src/lib.rt:47:15
-cast-at : tie.Need-cast-at Inv-loop μ-loop
-cast-at c = ?
-
--- src/lib.rt:47:9
 add-at : tie.Need-add-at Inv-loop μ-loop
-add-at c = ?
+add-at c = search needs
 
--- src/lib.rt:39:5
 loop-less : tie.Need-loop-less Inv-loop μ-loop
-loop-less c = ?
+loop-less c = search needs
 
--- src/lib.rt:39:5
 loop-again : tie.Need-loop-again Inv-loop μ-loop
-loop-again c = ?
+loop-again c = search needs
 
--- src/lib.rt:37:1
 same-length-3 : tie.Need-same-length-3 Inv-loop μ-loop
-same-length-3 c = ?
+same-length-3 c = search needs
 
--- src/lib.rt:37:1
 returns-3 : tie.Need-returns-3 Inv-loop μ-loop
-returns-3 c = ?
+returns-3 c = search needs
 
 pub read-all-spec : {M : Type 1} → statement M
 read-all-spec =
@@ -83,9 +80,12 @@ read-all-spec =
     read-requires
     same-length
     returns
+    sub-count
+    part-count-start
+    part-count-end
+    count-requires
     same-length-2
     returns-2
-    cast-at
     add-at
     loop-less
     loop-again

@@ -4,6 +4,7 @@ use Prim.Native.Nat.{_+_, _*_, _-_, _≤_}
 use mathlib.Core.Path.{_≡_}
 use lib.ListN.{length}
 use borrow.Author.Needs.{needs}
+use Rattle.io.proofs.Counting.{counts}
 use Rattle.listing.proofs.put_rows.Statement.{statement}
 use Rattle.listing.proofs.put_rows.Tie as tie
 
@@ -35,7 +36,7 @@ same-length : tie.Need-same-length Inv-loop μ-loop
 same-length c = search needs
 
 returns : tie.Need-returns Inv-loop μ-loop
-returns c = search needs
+returns c = counts _ _ (search needs)
 
 add-if2 : tie.Need-add-if2 Inv-loop μ-loop
 add-if2 c = search needs
@@ -44,7 +45,7 @@ same-length-2 : tie.Need-same-length-2 Inv-loop μ-loop
 same-length-2 c = search needs
 
 returns-2 : tie.Need-returns-2 Inv-loop μ-loop
-returns-2 c = search needs
+returns-2 c = counts _ _ (search needs)
 
 put-row-requires : tie.Need-put-row-requires Inv-loop μ-loop
 put-row-requires c κs = search needs
@@ -83,7 +84,7 @@ same-length-3 : tie.Need-same-length-3 Inv-loop μ-loop
 same-length-3 c = search needs
 
 returns-3 : tie.Need-returns-3 Inv-loop μ-loop
-returns-3 c = search needs
+returns-3 c = counts _ _ (search needs)
 
 pub put-rows-spec : {M : Type 1} → statement M
 put-rows-spec =

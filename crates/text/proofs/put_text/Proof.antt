@@ -4,6 +4,7 @@ use Prim.Native.Nat.{_-_, _≤_}
 use mathlib.Core.Path.{_≡_}
 use lib.ListN.{length}
 use borrow.Author.Needs.{needs}
+use Rattle.io.proofs.Counting.{counts}
 use Rattle.text.proofs.put_text.Statement.{statement}
 use Rattle.text.proofs.put_text.Tie as tie
 
@@ -14,7 +15,7 @@ abbrev μ-loop : tie.MeasureT-loop
 μ-loop out₀ at text o₀ i₀ out o i = length text - i
 
 returns : tie.Need-returns Inv-loop μ-loop
-returns c = search needs
+returns c = counts _ _ (search needs)
 
 loop-holds : tie.Need-loop-holds Inv-loop μ-loop
 loop-holds c = search needs
@@ -38,7 +39,7 @@ same-length : tie.Need-same-length Inv-loop μ-loop
 same-length c = search needs
 
 returns-2 : tie.Need-returns-2 Inv-loop μ-loop
-returns-2 c = search needs
+returns-2 c = counts _ _ (c .before .loop .inv .1)
 
 pub put-text-spec : {M : Type 1} → statement M
 put-text-spec =

@@ -1,0 +1,105 @@
+// reader SYSTEM AREA SHEET: reads the packets of the area that is in a file to a sheet file. The sheet file is made or replaced whole, and only when
+// the area is read.
+ghost use mathlib.Core.Path.{_≡_};
+ghost use Prim.Native.Nat.{_*_, _≤_};
+ghost use lib.ListN.{length, take};
+ghost use Rattle.io.specs.Counts.{Counts};
+ghost use Rattle.rules.specs.Demands.{Reads};
+ghost use Rattle.rules.specs.Lister.{fileOf};
+use rules::ReadBack;
+
+// An area's packets as a sheet, and the bytes of its file.
+fn read_area(system: u64, area: &[u8], s: &mut [u16], file: &mut [u8]) -> ReadBack
+    requires { ⌜ 2 * length (now s) ≤ length (now file) ⌝ }
+    ensures { λ r. ⌜ Reads system (now (area .entry)) (now (s .entry)) r (now (s .exit))
+        × (take (2 * r .numbers) (now (file .exit)) ≡ fileOf (take (r .numbers) (now (s .exit)))) ⌝ }
+{
+    let r = vanc::read(system, area, s);
+    let n = r.numbers as usize;
+    sheet_file::encode(&s[..n], file);
+    r
+}
+
+fn put_read(out: &mut [u8], r: ReadBack) -> usize
+    ensures { λ r. ⌜ Counts r (now (out .exit)) ⌝ }
+{
+    let a = text::put_labelled(out, 0, b"read packing ", r.packing);
+    let b = text::put_labelled(out, a, b" packets ", r.packets);
+    let c = text::put_labelled(out, b, b" numbers ", r.numbers);
+    text::put(out, c, b'\n')
+}
+
+fn print_read(r: ReadBack) {
+    let mut line = [0u8; 128];
+    let n = put_read(&mut line, r);
+    files::print(&line[..n]);
+}
+
+// Writes the first `numbers` numbers of a sheet file's bytes.
+fn replace_sheet(sheet: &[u8], file: &[u8], r: ReadBack) {
+    if 9956 < r.numbers {
+        return;
+    }
+    let n = 2 * (r.numbers as usize);
+    if file.len() < n {
+        return;
+    }
+    if files::replace_file(sheet, &file[..n]) {
+        print_read(r);
+    }
+}
+
+fn read_and_replace(system: u64, area: &[u8], bytes: &[u8], sheet: &[u8]) {
+    let mut s = [0u16; 9956];
+    let mut file = [0u8; 19912];
+    let r = read_area(system, bytes, &mut s, &mut file);
+    if r.number != 0 {
+        if r.number == 4 {
+            files::say(area, b": not as long as the area of that system\n");
+        }
+        files::print_refusal(r.number, r.place);
+        return;
+    }
+    replace_sheet(sheet, &file, r);
+}
+
+// One byte more than the largest area is read, so that a longer file is seen to be longer.
+fn read_files(system: u64, area: &[u8], sheet: &[u8]) {
+    let mut bytes = [0u8; 11521];
+    let n = files::read_file(area, &mut bytes);
+    if 11521 < n {
+        return;
+    }
+    read_and_replace(system, area, &bytes[..n], sheet);
+}
+
+fn with_system(system: u64) {
+    let mut area = io::buffer();
+    let n = os::arg(2, &mut area);
+    if os::errno() != 0 {
+        os::fail(b"AREA");
+        return;
+    }
+    let mut sheet = io::buffer();
+    let m = os::arg(3, &mut sheet);
+    if os::errno() != 0 {
+        os::fail(b"SHEET");
+        return;
+    }
+    read_files(system, &area[..n], &sheet[..m]);
+}
+
+fn main() {
+    if os::arg_count() != 4 {
+        files::say(b"reader SYSTEM AREA SHEET\n", b"Reads the packets of the area in the file AREA to the sheet file SHEET, which is made or replaced.\nSYSTEM is 1 (1080/60i), 2 (1080/50i) or 3 (720/60p).\n");
+        return;
+    }
+    let mut digits = [0u8; 64];
+    let k = os::arg(1, &mut digits);
+    let system = files::number_of(&digits[..k]);
+    if system == files::NOT_A_NUMBER {
+        files::say(b"SYSTEM", b": not a number\n");
+        return;
+    }
+    with_system(system);
+}
