@@ -39,10 +39,13 @@
 extern "C" {
 #endif
 
-/* A frame's area of VAUX blocks, in bytes, and the longest sheet of a frame, in numbers. */
+/* The VAUX blocks of a frame, in bytes. */
 #define VANC_AREA_1080_60I 9600
 #define VANC_AREA_1080_50I 11520
 #define VANC_AREA_720_60P 9600
+
+/* Numbers that the sheet of every frame has room in: 512 locations and 8,928 words. */
+#define VANC_SHEET_MAX 9956
 
 /* What laying gives back. On refusal packs and bytes are 0. */
 typedef struct {
@@ -84,7 +87,7 @@ vanc_laid vanc_lay(const uint16_t *sheet, size_t sheet_len, uint64_t packing, ui
  * Reads an area's packets into a sheet, in either packing.
  *
  * Success: the first `numbers` numbers of `sheet` are the sheet, those behind it are as they were. Refusal (3, 4, 5, 13 to 17): the
- * buffer is unchanged. 4 + 1024 + 9360 numbers are room for every frame. The area is only read.
+ * buffer is unchanged; 17 cannot come with VANC_SHEET_MAX numbers. The area is only read.
  */
 vanc_read_back vanc_read(uint64_t system, const uint8_t *area, size_t area_len, uint16_t *sheet, size_t sheet_len);
 

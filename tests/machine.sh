@@ -1,5 +1,5 @@
 # What this machine has. Sourced: `need COMMAND PACKAGE` installs a Debian package where the command is missing; `run PROGRAM ..` runs an
-# x86-64 program, as all that the toolchain builds are, on any processor.
+# x86-64 program, as all that the toolchain builds are, on any processor; `need_cc` sees to a C compiler for such programs, and `cc_for ..` calls it.
 
 as_root() {
   if [ "$(id -u)" = 0 ]; then "$@"; else sudo "$@"; fi
@@ -17,8 +17,18 @@ need() {
 
 if [ "$(uname -m)" = x86_64 ]; then
   run() { "$@"; }
+  need_cc() {
+    need gcc gcc
+    [ -e /usr/include/stdio.h ] || install_package libc6-dev
+  }
+  cc_for() { gcc "$@"; }
 else
   need qemu-x86_64 qemu-user
   [ -e /usr/x86_64-linux-gnu/lib/ld-linux-x86-64.so.2 ] || install_package libc6-amd64-cross
   run() { qemu-x86_64 -L /usr/x86_64-linux-gnu "$@"; }
+  need_cc() {
+    need x86_64-linux-gnu-gcc gcc-x86-64-linux-gnu
+    [ -e /usr/x86_64-linux-gnu/include/stdio.h ] || install_package libc6-dev-amd64-cross
+  }
+  cc_for() { x86_64-linux-gnu-gcc "$@"; }
 fi

@@ -1,0 +1,64 @@
+/*
+ * Lays two packets into the area of a 1080/60i frame, reads them back, and walks over the same two packets as a string.
+ *
+ *     cc -I include examples/frame.c libvanc.a -o frame
+ */
+#include "vanc.h"
+
+#include <inttypes.h>
+#include <stdio.h>
+#include <string.h>
+
+/* System 1; two locations: line 9, no flags, and line 561, flags 3; 16 words, the packets 45h 01h with 10h 80h, and 45h 01h with none. */
+static const uint16_t sheet[] = {
+    1, 1,
+    2, 9, 0, 561, 3,
+    16, 0x000, 0x3FF, 0x3FF, 0x145, 0x101, 0x102, 0x110, 0x180, 0x1D8,
+        0x000, 0x3FF, 0x3FF, 0x145, 0x101, 0x200, 0x246,
+};
+
+#define SHEET_LEN (sizeof sheet / sizeof sheet[0])
+
+static int lay_and_read(uint64_t packing)
+{
+    static uint8_t area[VANC_AREA_1080_60I];
+    static uint16_t back[VANC_SHEET_MAX];
+
+    vanc_laid laid = vanc_lay(sheet, SHEET_LEN, packing, area, sizeof area);
+    if (laid.number != 0) {
+        printf("refused %" PRIu64 " at %" PRIu64 "\n", laid.number, laid.place);
+        return 1;
+    }
+    printf("laid packs %" PRIu64 " bytes %" PRIu64 "\n", laid.packs, laid.bytes);
+
+    vanc_read_back read = vanc_read(1, area, sizeof area, back, VANC_SHEET_MAX);
+    if (read.number != 0) {
+        printf("refused %" PRIu64 " at %" PRIu64 "\n", read.number, read.place);
+        return 1;
+    }
+    printf("read packing %" PRIu64 " packets %" PRIu64 " numbers %" PRIu64 "\n", read.packing, read.packets, read.numbers);
+    return read.numbers != SHEET_LEN || memcmp(sheet, back, sizeof sheet) != 0;
+}
+
+static int walk(void)
+{
+    static const uint8_t string[] = {
+        0x89, 0x60, 0xFF, 0x45, 0x01, 0x02, 0x10, 0x80, 0xD8,
+        0xB1, 0xF4, 0xFF, 0x45, 0x01, 0x00, 0x46,
+    };
+    vanc_step step = vanc_walk(1, string, sizeof string, 0);
+    while (step.length != 0) {
+        printf("packet at %" PRIu64 " of %" PRIu64 " bytes\n", step.place, step.length);
+        step = vanc_walk(1, string, sizeof string, step.place + step.length);
+    }
+    return step.number != 0 || step.place != sizeof string;
+}
+
+int main(void)
+{
+    if (lay_and_read(1) || lay_and_read(2) || walk()) {
+        return 1;
+    }
+    puts("the same sheet came back, in both packings");
+    return 0;
+}

@@ -1,0 +1,40 @@
+#!/usr/bin/env bash
+# The library as others link it: the archive, the header against it, the examples in C and Rust built and run.
+set -euo pipefail
+cd "$(dirname "$0")/.."
+. tests/machine.sh
+need_cc
+need nm binutils
+
+work=$(mktemp -d)
+trap 'rm -rf "$work"' EXIT
+
+rt staticlib vanc >"$work/log" 2>&1 || { cat "$work/log"; exit 1; }
+archive=target/staticlib/libvanc.a
+
+nm "$archive" >"$work/symbols"
+python3 tests/header.py include/vanc.h "$work/symbols" crates/vanc/src/c.rt crates/rules/src/lib.rt
+
+expected='laid packs 5 bytes 16
+read packing 1 packets 2 numbers 24
+laid packs 1 bytes 16
+read packing 2 packets 2 numbers 24'
+last='the same sheet came back, in both packings'
+
+cc_for -std=c99 -Wall -Wextra -pedantic -Werror -O2 -I include examples/frame.c "$archive" -o "$work/frame_c"
+said=$(run "$work/frame_c")
+walked='packet at 0 of 9 bytes
+packet at 9 of 7 bytes'
+[ "$said" = "$expected"$'\n'"$walked"$'\n'"$last" ] || { echo "examples/frame.c printed:"; echo "$said"; exit 1; }
+echo "examples/frame.c: built and run"
+
+if [ "$(uname -m)" != x86_64 ]; then
+  echo "examples/frame.rs: skipped, this machine's rustc does not link x86-64 programs"
+elif ! command -v rustc >/dev/null; then
+  echo "examples/frame.rs: skipped, no rustc"
+else
+  rustc --edition 2021 -O -L "$(dirname "$archive")" -l static=vanc examples/frame.rs -o "$work/frame_rs"
+  said=$("$work/frame_rs")
+  [ "$said" = "$expected"$'\n'"$last" ] || { echo "examples/frame.rs printed:"; echo "$said"; exit 1; }
+  echo "examples/frame.rs: built and run"
+fi

@@ -1,0 +1,140 @@
+#!/usr/bin/env bash
+# The programs on files, as an operator runs them: what they print, and what is in the files afterwards, also where something is wrong.
+set -euo pipefail
+cd "$(dirname "$0")/.."
+. tests/machine.sh
+rt check lister layer reader >/dev/null
+
+top=$PWD
+work=$(mktemp -d)
+trap 'rm -rf "$work"' EXIT
+cd "$work"
+done_tests=0
+
+fail() {
+  echo "programs: $1" >&2
+  exit 1
+}
+
+program() {
+  local name=$1
+  shift
+  run "$top/target/bin/$name" "$@"
+}
+
+# expect NAME STDOUT STDERR PROGRAM ARGUMENTS..: what is printed is all of STDOUT, and holds STDERR (nothing, where that is empty).
+expect() {
+  local name=$1 out=$2 err=$3
+  shift 3
+  local said
+  said=$(program "$@" 2>stderr) || fail "$name: it did not end well"
+  [ "$said" = "$out" ] || fail "$name: printed '$said', not '$out'"
+  if [ -z "$err" ]; then
+    [ ! -s stderr ] || fail "$name: said '$(cat stderr)'"
+  else
+    grep -qF -- "$err" stderr || fail "$name: said '$(cat stderr)', not '$err'"
+  fi
+  rm -f stderr
+  done_tests=$((done_tests + 1))
+}
+
+# same NAME: every file is as `fresh` made it, and none is beside them.
+same() {
+  local f
+  for f in cue.sheet frame.area; do
+    cmp -s "$f" "kept/$f" || fail "$1: $f has changed"
+  done
+  [ "$(ls)" = "$(ls kept; echo kept)" ] || fail "$1: files were left: $(ls)"
+}
+
+fresh() {
+  rm -rf ./*
+  mkdir kept
+  cp "$top/samples/cue.sheet" "$top/samples/frame.area" .
+  "$@"
+  cp ./*.* kept/
+}
+
+for packing in 1 2; do
+  packs=10
+  [ $packing = 1 ] || packs=1
+  fresh true
+  expect "laying" "laid packs $packs bytes 30" "" layer $packing cue.sheet frame.area
+  ! cmp -s frame.area kept/frame.area || fail "laying: the area is as it was"
+  expect "reading" "read packing $packing packets 3 numbers 40" "" reader 1 frame.area back.sheet
+  cmp -s back.sheet cue.sheet || fail "what came back is not what was laid"
+  expect "reading over a file" "read packing $packing packets 3 numbers 40" "" reader 1 frame.area back.sheet
+  [ "$(program lister <back.sheet)" = "$(program lister <cue.sheet)" ] || fail "the lister tells them apart"
+  cp back.sheet cue.sheet
+  expect "laying again" "laid packs $packs bytes 30" "" layer $packing cue.sheet frame.area
+  [ "$(ls)" = "$(printf '%s\n' back.sheet cue.sheet frame.area kept)" ] || fail "laying: files were left: $(ls)"
+done
+
+refused() {
+  expect "$@"
+  same "$1"
+}
+
+cut_sheet() { printf '\001' >>cue.sheet; }
+long_sheet() { head -c 65538 /dev/zero >cue.sheet; }
+short_area() { head -c 9599 "$top/samples/frame.area" >frame.area; }
+long_area() { head -c 20000 /dev/zero >frame.area; }
+bad_checksum() { printf '\001' | dd of=cue.sheet bs=1 seek=37 conv=notrunc status=none; }
+first_byte() { printf '\000' | dd of=frame.area bs=1 seek=3 conv=notrunc status=none; }
+
+fresh true
+refused "packing 3" "refused 1 at 0" "" layer 3 cue.sheet frame.area
+refused "packing 65537" "refused 1 at 0" "" layer 65537 cue.sheet frame.area
+refused "packing x" "" "PACKING: not a number" layer x cue.sheet frame.area
+refused "packing of 20 digits" "" "PACKING: not a number" layer 18446744073709551617 cue.sheet frame.area
+refused "packing empty" "" "PACKING: not a number" layer "" cue.sheet frame.area
+refused "no arguments" "" "layer PACKING SHEET AREA" layer
+refused "two arguments" "" "layer PACKING SHEET AREA" layer 1 cue.sheet
+refused "four arguments" "" "layer PACKING SHEET AREA" layer 1 cue.sheet frame.area more
+refused "no sheet" "" "nothing.sheet: No such file or directory" layer 1 nothing.sheet frame.area
+refused "no area" "" "nothing.area: No such file or directory" layer 1 cue.sheet nothing.area
+refused "a folder for the sheet" "" "kept: Is a directory" layer 1 kept frame.area
+refused "a folder for the area" "" "kept: Is a directory" layer 1 cue.sheet kept
+refused "an empty name" "" ": No such file or directory" layer 1 "" frame.area
+refused "no arguments for the reader" "" "reader SYSTEM AREA SHEET" reader
+refused "system 4" "refused 3 at 0" "" reader 4 frame.area back.sheet
+refused "system 65537" "refused 3 at 0" "" reader 65537 frame.area back.sheet
+refused "system -1" "" "SYSTEM: not a number" reader -1 frame.area back.sheet
+refused "an area of another system" "refused 4 at 0" "frame.area: not as long" reader 2 frame.area back.sheet
+refused "no area to read" "" "nothing.area: No such file or directory" reader 1 nothing.area back.sheet
+refused "a folder to read" "" "kept: Is a directory" reader 1 kept back.sheet
+refused "a folder to write" "" "kept: Is a directory" reader 1 frame.area kept
+refused "a folder that is not there" "" "nowhere/back.sheet" reader 1 frame.area nowhere/back.sheet
+
+fresh cut_sheet
+refused "an odd sheet" "refused 2 at 0" "cue.sheet: an odd number" layer 1 cue.sheet frame.area
+fresh long_sheet
+refused "a long sheet" "refused 2 at 0" "cue.sheet: an odd number of bytes, or more than 65536" layer 1 cue.sheet frame.area
+refused "1 before 2" "refused 1 at 0" "" layer 0 cue.sheet frame.area
+fresh short_area
+refused "a short area" "refused 4 at 0" "frame.area: not as long" layer 1 cue.sheet frame.area
+refused "a short area to read" "refused 4 at 0" "frame.area: not as long" reader 1 frame.area back.sheet
+fresh long_area
+refused "a long area" "refused 4 at 0" "frame.area: not as long" layer 2 cue.sheet frame.area
+fresh bad_checksum
+refused "a wrong checksum" "refused 10 at 0" "" layer 1 cue.sheet frame.area
+fresh first_byte
+refused "a wrong first byte" "refused 13 at 0" "" reader 1 frame.area back.sheet
+
+# A disk that is full: no file may have more than a block, and the signal that would end the program is ignored, so that its write fails.
+full() {
+  (
+    trap '' XFSZ
+    ulimit -f 1
+    program "$@" 2>stderr
+  )
+}
+fresh true
+said=$(full layer 1 cue.sheet frame.area) || fail "a full disk: it did not end well"
+[ -z "$said" ] || fail "a full disk: printed '$said'"
+grep -qF 'frame.area' stderr || fail "a full disk: said '$(cat stderr)'"
+rm stderr
+same "a full disk"
+done_tests=$((done_tests + 1))
+
+echo "programs: $done_tests runs as expected"
