@@ -281,3 +281,21 @@ def read(system, area, buffer):
         return r.args[0], r.args[1], 0, 0, 0
     buffer[: len(s)] = s
     return 0, 0, packing, len(found), len(s)
+
+
+# ---- walking
+
+def walk(system, string, place):
+    """(number, place, length) of one step: a packet, the end, or a refusal."""
+    if system not in LAST:
+        return 3, 0, 0
+    if place >= len(string):
+        return 0, place, 0
+    rest = string[place:]
+    if len(rest) < 7 or len(rest) < rest[5] + 7:
+        return 14, place, 0
+    try:
+        judged(system, place, rest[: rest[5] + 7])
+    except Refused as refused:
+        return (*refused.args, 0)
+    return 0, place, rest[5] + 7

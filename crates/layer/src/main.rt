@@ -45,7 +45,12 @@ fn lay_and_replace(packing: u64, sheet: &[u8], file: &[u8], area: &[u8], bytes: 
     let mut s = [0u16; 32768];
     let r = lay_file(file, packing, &mut s, bytes);
     if r.number != 0 {
-        explain(r.number, file.len() <= 65536 && file.len() % 2 == 0, sheet, area);
+        explain(
+            r.number,
+            file.len() <= 65536 && file.len() % 2 == 0,
+            sheet,
+            area,
+        );
         files::print_refusal(r.number, r.place);
         return;
     }
@@ -87,7 +92,10 @@ fn with_packing(packing: u64) {
 
 fn main() {
     if os::arg_count() != 4 {
-        files::say(b"layer PACKING SHEET AREA\n", b"Lays the packets of the sheet file SHEET into the area in the file AREA, which is replaced.\nPACKING is 1 (packs of 5) or 2 (long packs).\n");
+        files::say(
+            b"layer PACKING SHEET AREA\n",
+            b"Lays the packets of the sheet file SHEET into the area in the file AREA, which is replaced.\nPACKING is 1 (packs of 5) or 2 (long packs).\n",
+        );
         return;
     }
     let mut digits = [0u8; 64];

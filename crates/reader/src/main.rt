@@ -91,7 +91,10 @@ fn with_system(system: u64) {
 
 fn main() {
     if os::arg_count() != 4 {
-        files::say(b"reader SYSTEM AREA SHEET\n", b"Reads the packets of the area in the file AREA to the sheet file SHEET, which is made or replaced.\nSYSTEM is 1 (1080/60i), 2 (1080/50i) or 3 (720/60p).\n");
+        files::say(
+            b"reader SYSTEM AREA SHEET\n",
+            b"Reads the packets of the area in the file AREA to the sheet file SHEET, which is made or replaced.\nSYSTEM is 1 (1080/60i), 2 (1080/50i) or 3 (720/60p).\n",
+        );
         return;
     }
     let mut digits = [0u8; 64];

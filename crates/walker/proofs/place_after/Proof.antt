@@ -1,0 +1,24 @@
+-- `walker::place_after` meets its contract: the place and the length of its answer, whose sum is a number of the machine.
+-- Assumes nothing.
+use Prim.Native.Nat.{_<_, _^_}
+use lib.ListN.{length}
+use borrow.Author.Needs.{needs}
+use Rattle.walker.proofs.Laws.{place-fits}
+use Rattle.walker.proofs.place_after.Statement.{statement}
+use Rattle.walker.proofs.place_after.Tie as tie
+
+walk-requires : tie.Need-walk-requires
+walk-requires c κs = search needs
+
+add-t5 : tie.Need-add-t5
+add-t5 c =
+    let a = c .before .before .before .before .args in
+    let p : a .place .0 < 2 ^ 64 = search needs in
+    let l : length (a .string .now) < 2 ^ 64 = search needs in
+    record { fits = rw (c .before .before .walk .ensures) (place-fits (a .system) (a .string .now) (a .place .0) (2 ^ 64) p l) }
+
+returns : tie.Need-returns
+returns c = rw (c .before .before .walk .ensures)
+
+pub place-after-spec : {M : Type 1} → statement M
+place-after-spec = tie.close (tie.spec walk-requires add-t5 returns)

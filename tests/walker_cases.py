@@ -1,0 +1,81 @@
+#!/usr/bin/env python3
+"""Strings for the walker, and what has to come out: python3 tests/walker_cases.py writes crates/walker_cases/data/cases and its stdout.
+
+A case is a system in one byte, the string's length in two, high byte first, and the string. Printed are of each answer its number, place and length, and which
+answer it is (0 for the last that there is); then the same of steps from places of all sorts, and where the walker stands after each."""
+import pathlib
+import random
+
+from reference import danc, packet, walk
+
+HOME = pathlib.Path(__file__).resolve().parent.parent / "crates" / "walker_cases"
+LAST_ANSWER = 2**64 - 1
+
+
+def answers(system, string):
+    place, k = 0, 0
+    while True:
+        step = walk(system, string, place)
+        yield (*step, k)
+        if step[2] == 0:
+            yield (*step, k + 1)
+            yield (*step, 0)
+            return
+        place, k = place + step[2], k + 1
+
+
+def places(system, string):
+    for place in [*range(0, 60, 3), len(string), LAST_ANSWER]:
+        step = walk(system, string, place)
+        yield (*step, place + step[2])
+
+
+def item(rng, dc=None, last=1125):
+    user = [rng.choice([0, 0xFF, 0xE1, 0xE2, 0xE3, rng.randrange(256)]) for _ in range(rng.choice([0, 1, 2, 3, 4, 5, 20, 255]) if dc is None else dc)]
+    line = rng.choice([0, 1, 9, 127, 255, 256, 561, last])
+    return list(danc(line, rng.randrange(4), packet(rng.randrange(256), rng.randrange(256), user)))
+
+
+def strings(rng):
+    """(system, string): sound of every length, cut at every place, damaged in every byte, of systems that there are not."""
+    p = list(danc(9, 0, packet(0x45, 0x01, [0x10, 0x80])))
+    cue = list(danc(127, 0, packet(0x45, 0x01, [0xB8])))
+    for system in range(5):
+        yield system, []
+        yield system, p
+        yield system, p + cue
+    for cut in range(len(p + cue + p)):
+        yield 1, (p + cue + p)[:cut]
+    for i in range(len(p + cue)):
+        for bit in range(8):
+            yield 1 + bit % 3, [b ^ (1 << bit) if j == i else b for j, b in enumerate(p + cue)]
+    for line in (0, 1, 750, 751, 1125, 1126, 2047):
+        for system in (1, 2, 3):
+            yield system, p + [0x80 | line & 0x7F, 0x60 | line >> 7, 0xFF, *p[3:]] + p
+            yield system, [line & 0x7F, 0x60 | line >> 7, 0xFF, *p[3:]]
+    for fill in range(1, 12):
+        yield 2, p + [0xFF] * fill
+    yield 1, [0xFF] * 300
+    yield 1, [b for _ in range(600) for b in item(rng, 0)]
+    yield 2, [b for _ in range(34) for b in item(rng, 255)]
+    for _ in range(80):
+        whole = [b for _ in range(rng.randrange(1, 9)) for b in item(rng, None, 750)]
+        yield rng.randrange(1, 4), whole
+        yield rng.randrange(1, 4), whole[: rng.randrange(len(whole) + 1)]
+        i = rng.randrange(len(whole))
+        yield rng.randrange(1, 4), [*whole[:i], rng.randrange(256), *whole[i + 1 :]]
+
+
+def main():
+    cases, lines = bytearray(), []
+    for system, string in strings(random.Random(375)):
+        cases += bytes([system, len(string) >> 8, len(string) & 0xFF, *string])
+        for row in (*answers(system, string), *places(system, string)):
+            lines.append(" ".join(map(str, row)))
+    (HOME / "data").mkdir(parents=True, exist_ok=True)
+    (HOME / "data" / "cases").write_bytes(cases)
+    (HOME / "stdout").write_text("\n".join(lines) + "\n")
+
+
+if __name__ == "__main__":
+    main()
