@@ -3,6 +3,7 @@
 use frame::Line;
 use frame::StringByte;
 use frame::figures_of;
+use frame::wide;
 use rules::Step;
 ghost use mathlib.Core.Path.{_≡_};
 ghost use mathlib.Core.Bool.{cond};
@@ -15,13 +16,6 @@ ghost use Rattle.rules.specs.Reading.{flagsOf, lineFault, bytesFault, stringFau
 ghost use Rattle.rules.specs.Walker.{step, walk as walked};
 ghost use Rattle.danc.specs.Header.{lineRead};
 ghost use Rattle.danc.specs.Validated.{Within, validated};
-
-// A byte as a number of bytes, so that no caller has to show that the cast keeps it.
-fn wide(x: u8) -> usize
-    ensures { λ r. ⌜ (r ≡ x) × (r < 256) ⌝ }
-{
-    x as usize
-}
 
 // Header byte 0 (001, figure 6). "LE is 1 where there is a line."
 pub fn head0(line: Line) -> u8

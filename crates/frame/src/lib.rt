@@ -108,8 +108,8 @@ pub fn figures_of(system: u64) -> Figures
     }
 }
 
-// A byte's number as a place, so that no caller has to show that the cast keeps it.
-fn wide(x: u8) -> usize
+// A byte as a place or a number of bytes, so that no caller has to show that the cast keeps it.
+pub fn wide(x: u8) -> usize
     ensures { λ r. ⌜ (r ≡ x) × (r < 256) ⌝ }
 {
     x as usize

@@ -13,7 +13,7 @@ use lib.Dec.{eqb}
 use lib.ListN.{length, getD, take, drop, set, length-append, length-drop, length-map, drop-of-length-le, List·getD-eq-default}
 use lib.Seq.{sets, sets-eq, getD-drop, drop-cons, drop-drop, take-at, drop-at}
 use borrow.Author.Tests.{leb-true}
-use Rattle.rules.specs.Base.{sum, joined, All, one, Bytes}
+use Rattle.rules.specs.Base.{sum, joined, All, one}
 use Rattle.rules.specs.Systems.{System, stands}
 use Rattle.rules.specs.Packet.{Packet, body, word, words, coded, checkOf, Sound}
 use Rattle.rules.specs.Danc.{written, header, behind, danc, string, bytesOf, stringBytes}

@@ -5,24 +5,24 @@
 -- Assumes nothing.
 use Prim.Native.Nat.{ℕ, zero, suc, _+_, _-_, _*_, _/_, _%_, _≤_, _<_}
 use mathlib.Core.Path.{_≡_, refl, sym, ap, ap₂, _∙_, subst}
-use mathlib.Core.Bool.{Bool, true, false, cond, not, _&&_, _||_}
+use mathlib.Core.Bool.{Bool, true, false, cond, _&&_, _||_}
 use mathlib.Core.List.{List, [], _∷_, _++_, append-nil, append-assoc}
 use native.Mathlib.Omega.{arith}
 use native.Mathlib.Numerals.{add-one, add-two, add-three, add-four, add-five, add-six, add-seven}
 use lib.Bits.{bitAnd, and-comm, and-le-l, and-mask}
-use lib.Dec.{eqb, ltb, leb}
+use lib.Dec.{eqb, leb}
 use lib.ListN.{length, getD, take, drop, set, length-append, length-drop, length-map, drop-of-length-le}
-use lib.Seq.{drop-cons, length-take-le, take-nil, take-length, take-at, take-take, take-append-add, drop-append-add, getD-append-add, getD-take, drop-drop, drop-set-lt, sets, length-sets, sets-eq}
+use lib.Seq.{drop-cons, length-take-le, take-length, take-at, take-take, take-append-add, drop-append-add, getD-append-add, getD-take, drop-drop, sets, length-sets}
 use borrow.Author.Tests.{eqb-true, eqb-false, eq-eqb, ne-eqb, le-ltb, leb-true}
 use Rattle.rules.specs.Base.{allIs, All, none, one, Bytes}
 use Rattle.rules.specs.Systems.{System}
-use Rattle.rules.specs.Packet.{Packet, checkOf}
+use Rattle.rules.specs.Packet.{Packet}
 use Rattle.rules.specs.Danc.{Item, Good, packetsOf, danc, string, stringBytes}
 use Rattle.rules.specs.Sheet.{limit}
 use Rattle.rules.specs.Packing1.{Five, five, flat, fives, carriersFor}
 use Rattle.rules.specs.Numbers.{Outcome, listed, refused, also, unless, Row, packetsIn}
-use Rattle.rules.specs.Reading.{packetOfBytes, lineFault, bytesFault, stringFault, lead, carried, frontBytes, carriersFit, packsFault, packsEnd, afterCarriers, packRow, inOrder}
-use Rattle.rules.proofs.Basics.{never, both, second-false, take-bytes, drop-bytes, joined-append, all-append}
+use Rattle.rules.specs.Reading.{packetOfBytes, bytesFault, stringFault, lead, carried, frontBytes, carriersFit, packsFault, packsEnd, afterCarriers, packRow, inOrder}
+use Rattle.rules.proofs.Basics.{never, both, second-false, take-bytes, drop-bytes, drop-take, sets-front, sets-behind, joined-append, all-append}
 use Rattle.rules.proofs.Strings.{danc-length, itemOf, bytes-laid, string-room}
 use Rattle.rules.proofs.Packs.{flat-fives, flat-length, lead-within}
 use Rattle.danc.proofs.Validation.{fault-small}
@@ -59,23 +59,6 @@ fill-done t i s h inv = go (eqb t 0xFF) (rw (drop-of-length-le s h) at inv)
     go false e = e
 
 -- ---- bytes that are written and bytes that are kept
-
-pub drop-take : (a n : ℕ) (s : List ℕ) → drop a (take n s) ≡ take (n - a) (drop a s)
-drop-take zero n s = let e : n - 0 ≡ n = omega arith in rw e
-drop-take (suc a) zero s = let e : 0 - suc a ≡ 0 = omega arith in rw e
-drop-take (suc a) (suc n) [] = sym (take-nil (suc n - suc a))
-drop-take (suc a) (suc n) (x ∷ s) = let e : suc n - suc a ≡ n - a = omega arith in rw e (drop-take a n s)
-
--- bytes stored one after the other
-pub sets-front : (l : List ℕ) (i : ℕ) (vs : List ℕ) → i + length vs ≤ length l → take (i + length vs) (sets l i vs) ≡ take i l ++ vs
-sets-front l i vs h =
-    let k : length (take i l) ≡ i = length-take-le i l (omega arith) in
-    let m = length-append (take i l) vs in
-    rw (sets-eq vs l i h) (take-at (take i l ++ vs) (drop (i + length vs) l) (i + length vs) (omega arith))
-
-pub sets-behind : (l : List ℕ) (i : ℕ) (vs : List ℕ) (n : ℕ) → i + length vs ≤ n → drop n (sets l i vs) ≡ drop n l
-sets-behind l i [] n h = refl
-sets-behind l i (v ∷ vs) n h = sets-behind (set l i v) (suc i) vs n (omega arith) ∙ drop-set-lt n l i v (omega arith)
 
 -- what is the same from a place on is the same from a later place on
 module _ (s t : List ℕ) (a : ℕ) (e : drop a s ≡ drop a t) where

@@ -1,5 +1,6 @@
 // Reading packing 1: packs of 5 opened to a string, in place (001, 4.1.1, figures 4 and 7; document 01, "Numbers given back", 13 to 16).
 use frame::Line;
+use frame::wide;
 ghost use mathlib.Core.Path.{_≡_};
 ghost use mathlib.Core.Bool.{true, false, _&&_};
 ghost use Prim.Native.Nat.{_+_, _-_, _*_, _%_, _≤_, _<_};
@@ -26,13 +27,6 @@ const LIMIT: usize = 512;
 
 // Past every number that stands for packets and bytes.
 const REFUSED: usize = 1073741824;
-
-// A byte as a number of bytes, so that no caller has to show that the cast keeps it.
-fn wide(x: u8) -> usize
-    ensures { λ r. ⌜ (r ≡ x) × (r < 256) ⌝ }
-{
-    x as usize
-}
 
 // A refusal and its packet as one number.
 fn refusal(number: u64, packet: usize) -> usize

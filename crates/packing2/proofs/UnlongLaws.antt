@@ -12,39 +12,24 @@ use native.Mathlib.Numerals.{add-one}
 use native.Mathlib.Omega.{arith}
 use lib.Dec.{eqb, ltb}
 use lib.ListN.{length, getD, take, drop, set, length-append, length-take, length-drop, drop-of-length-le}
-use lib.Seq.{sets, sets-eq, length-sets, paste-suc, drop-set-lt, getD-take, getD-drop, drop-drop, take-nil, take-take, length-take-le, take-at}
+use lib.Seq.{sets, length-sets, paste-suc, getD-take, getD-drop, drop-drop, take-take, length-take-le}
 use borrow.Author.Tests.{lt-ltb, le-ltb, eq-eqb, ne-eqb}
 use Rattle.rules.specs.Base.{allIs, sum}
 use Rattle.rules.specs.Systems.{system, hd1080-60i, hd1080-50i, hd720-60p}
 use Rattle.rules.specs.Blocks.{shift, width, runs, blockSizes}
 use Rattle.rules.specs.Packing2.{Opened, opened, shut, onto, openPack, openLong, stringRoom}
-use Rattle.rules.proofs.Basics.{never}
+use Rattle.rules.proofs.Basics.{never, drop-take, sets-front, sets-behind}
 use Rattle.packing2.specs.Unlong.{openedFrom, openedCode, Pulled, roomAt, after, sizesFrom}
 
 -- ---- lists
-
--- what is left of a cut list is cut
-drop-take : (a t : ℕ) (l : List ℕ) → drop a (take t l) ≡ take (t - a) (drop a l)
-drop-take zero t l = let e : t - 0 ≡ t = omega arith in rw e
-drop-take (suc a) zero l = let e : 0 - suc a ≡ 0 = omega arith in rw e
-drop-take (suc a) (suc t) [] = sym (take-nil (suc t - suc a))
-drop-take (suc a) (suc t) (x ∷ l) = let e : suc t - suc a ≡ t - a = omega arith in rw e (drop-take a t l)
 
 -- a part of what is not cut away
 part-take : (a m t : ℕ) (l : List ℕ) → a + m ≤ t → take m (drop a (take t l)) ≡ take m (drop a l)
 part-take a m t l h = ap (take m) (drop-take a t l) ∙ take-take m (t - a) (drop a l) (omega arith)
 
--- stores leave what is behind them
-sets-behind : (xs l : List ℕ) (i n : ℕ) → i + length xs ≤ n → drop n (sets l i xs) ≡ drop n l
-sets-behind [] l i n h = refl
-sets-behind (x ∷ xs) l i n h = sets-behind xs (set l i x) (suc i) n (omega arith) ∙ drop-set-lt n l i x (omega arith)
-
--- and stand behind what was before them
+-- stores stand behind what was before them
 sets-before : (xs l : List ℕ) (i n : ℕ) → length xs ≡ n → i + n ≤ length l → take (i + n) (sets l i xs) ≡ take i l ++ xs
-sets-before xs l i n e h =
-    let k : length (take i l) ≡ i = length-take-le i l (omega arith) in
-    let m : length (take i l ++ xs) ≡ i + n = length-append (take i l) xs ∙ (omega arith) in
-    ap (take (i + n)) (sets-eq xs l i (omega arith)) ∙ take-at (take i l ++ xs) (drop (i + length xs) l) (i + n) m
+sets-before xs l i n e h = subst (λ (m : ℕ). take (i + m) (sets l i xs) ≡ take i l ++ xs) e (sets-front l i xs (omega arith))
 
 -- ---- bytes through a local array
 
@@ -170,7 +155,7 @@ module _ (ns us₀ us : List ℕ) (room total at len : ℕ) (fits : at + (room +
 
   -- the later blocks are as they were
   pulled-later : drop (at + (3 + room)) pulled ≡ drop (at + (3 + room)) us₀
-  pulled-later = let e = body-length in sets-behind body us len (at + (3 + room)) (omega arith) ∙ kept (3 + room)
+  pulled-later = let e = body-length in sets-behind us len body (at + (3 + room)) (omega arith) ∙ kept (3 + room)
 
   later-at : drop room (drop 3 (drop at (take total us₀))) ≡ drop (at + (3 + room)) (take total us₀)
   later-at =

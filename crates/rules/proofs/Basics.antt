@@ -1,15 +1,16 @@
 -- Small laws that the others share.
 --
--- In order: tests; fill; bytes; items.
+-- In order: tests; fill; parts of lists; bytes; items.
 -- Assumes nothing.
-use Prim.Native.Nat.{ℕ, zero, suc, _<_}
+use Prim.Native.Nat.{ℕ, zero, suc, _+_, _-_, _≤_, _<_}
 use mathlib.Core.Path.{_≡_, refl, sym, ap, ap₂, _∙_}
 use mathlib.Core.Logic.{_⊎_, inl, inr}
 use mathlib.Core.Bool.{Bool, true, false, _&&_, _||_}
 use mathlib.Core.List.{List, [], _∷_, _++_, map, append-assoc}
 use native.Mathlib.Omega.{arith}
 use lib.Dec.{eqb}
-use lib.ListN.{length, getD, take, drop, replicate}
+use lib.ListN.{length, getD, take, drop, set, replicate, length-append}
+use lib.Seq.{sets, sets-eq, take-nil, take-at, length-take-le, drop-set-lt}
 use borrow.Author.Tests.{eqb-true, eq-eqb}
 use Rattle.rules.specs.Base.{allIs, joined, All, none, one, Bytes}
 use Rattle.rules.specs.Packet.{Packet}
@@ -48,6 +49,25 @@ fill-allIs v [] e = refl
 fill-allIs v (x ∷ s) e =
     let w = both (eqb x v) (allIs v s) e in
     ap₂ (λ (a : ℕ) (t : List ℕ). a ∷ t) (eqb-true x v (w .0)) (fill-allIs v s (w .1))
+
+-- ---- parts of lists, and bytes stored one after the other
+
+pub drop-take : (a n : ℕ) (s : List ℕ) → drop a (take n s) ≡ take (n - a) (drop a s)
+drop-take zero n s = let e : n - 0 ≡ n = omega arith in rw e
+drop-take (suc a) zero s = let e : 0 - suc a ≡ 0 = omega arith in rw e
+drop-take (suc a) (suc n) [] = sym (take-nil (suc n - suc a))
+drop-take (suc a) (suc n) (x ∷ s) = let e : suc n - suc a ≡ n - a = omega arith in rw e (drop-take a n s)
+
+-- bytes stored one after the other
+pub sets-front : (l : List ℕ) (i : ℕ) (vs : List ℕ) → i + length vs ≤ length l → take (i + length vs) (sets l i vs) ≡ take i l ++ vs
+sets-front l i vs h =
+    let k : length (take i l) ≡ i = length-take-le i l (omega arith) in
+    let m = length-append (take i l) vs in
+    rw (sets-eq vs l i h) (take-at (take i l ++ vs) (drop (i + length vs) l) (i + length vs) (omega arith))
+
+pub sets-behind : (l : List ℕ) (i : ℕ) (vs : List ℕ) (n : ℕ) → i + length vs ≤ n → drop n (sets l i vs) ≡ drop n l
+sets-behind l i [] n h = refl
+sets-behind l i (v ∷ vs) n h = sets-behind (set l i v) (suc i) vs n (omega arith) ∙ drop-set-lt n l i v (omega arith)
 
 -- ---- bytes
 

@@ -1,6 +1,7 @@
 // Writing the sheet of packets: "16-bit numbers .. in three sections, each after its count".
 // The packets come as a string of DANC bytes, which is what a reader has found. The string is measured before a number is written,
 // so that a buffer without room for the sheet stays as it was.
+use frame::wide;
 ghost use mathlib.Core.Path.{_≡_};
 ghost use mathlib.Core.List.{map};
 ghost use Prim.Native.Nat.{_*_, _≤_, _<_};
@@ -12,12 +13,6 @@ ghost use Rattle.sheet.specs.Write.{sizeIn, shown, wrote, sheetAfter, pa
 
 // What `measure` answers where the bytes are not whole packets: no count of packets in 65,535 bytes.
 const NOT_WHOLE: usize = 65536;
-
-fn wide(b: u8) -> usize
-    ensures { λ r. ⌜ (r ≡ b) × (r < 256) ⌝ }
-{
-    b as usize
-}
 
 // A sheet has a line's number alone.
 fn line_of(h0: u8, h1: u8) -> u16

@@ -5,12 +5,12 @@
 use Prim.Native.Nat.{ℕ, zero, suc, _+_, _-_, _*_, _/_, _≤_, _<_}
 use mathlib.Core.Path.{_≡_, refl, sym, ap, ap₂, _∙_, subst}
 use mathlib.Core.Bool.{Bool, true, false, _||_}
-use mathlib.Core.List.{List, [], _∷_, _++_, append-assoc, map}
+use mathlib.Core.List.{List, [], _++_, append-assoc, map}
 use native.Mathlib.Nat.{sub-zero}
 use native.Mathlib.Omega.{arith}
 use lib.Dec.{eqb}
-use lib.ListN.{length, take, drop, length-append, replicate-append-replicate}
-use lib.Seq.{take-at, drop-at, drop-drop}
+use lib.ListN.{length, take, drop, replicate-append-replicate}
+use lib.Seq.{take-at, drop-at}
 use borrow.Author.Tests.{leb-true, le-leb, lt-leb, eqb-true, eq-eqb, ne-eqb}
 use Rattle.rules.specs.Base.{sum, joined}
 use Rattle.rules.specs.Systems.{System, known, system}
@@ -22,7 +22,7 @@ use Rattle.rules.specs.Packing1.{flat, packs, packsOf}
 use Rattle.rules.specs.Packing2.{fill, longPacks, stringRoom, longCount}
 use Rattle.rules.specs.Packings.{isPacking, userBytes, laidBytes, capacity, needed, fits, packsLaid}
 use Rattle.rules.specs.Numbers.{listed, refused}
-use Rattle.rules.specs.Laying.{shaped, laying, laidOf, areaOf}
+use Rattle.rules.specs.Laying.{shaped, laidOf, areaOf}
 use Rattle.rules.specs.Lister.{testedOf}
 use Rattle.rules.specs.Demands.{Tests, Asked, Lays}
 use Rattle.rules.specs.declared.Laid.{Laid}

@@ -19,7 +19,7 @@ use Rattle.rules.specs.Danc.{stringBytes, string}
 use Rattle.rules.specs.Sheet.{limit, sheetOf}
 use Rattle.rules.specs.Blocks.{width, runs, blockSizes, areaSize, userBytesIn}
 use Rattle.rules.specs.Packing1.{fives}
-use Rattle.rules.specs.Packing2.{Opened, opened}
+use Rattle.rules.specs.Packing2.{Opened}
 use Rattle.rules.specs.Numbers.{Outcome, listed, refused, unless, also, Row, packetsIn}
 use Rattle.rules.specs.Reading.{stringRow, packRow, inOrder, firstByte, packetsOfOpened, packetsOfUserBytes, packingFound, reading, readBackOf, read, bufferAfter}
 use Rattle.rules.specs.Demands.{Reads}

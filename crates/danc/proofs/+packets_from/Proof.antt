@@ -15,7 +15,7 @@ use Rattle.danc.proofs.+packets_from.Lts-packets_from as lts
 use Rattle.danc.proofs.ends.Reads as ends
 use Rattle.danc.proofs.fault.Reads as fault
 use Rattle.danc.proofs.refusal.Reads as refusal
-use Rattle.danc.proofs.wide.Reads as wide
+use Rattle.frame.proofs.wide.Reads as wide
 use Rattle.danc.proofs.+packets_from.{statement}
 use Rattle.danc.proofs.+packets_from.Tie.{close}
 

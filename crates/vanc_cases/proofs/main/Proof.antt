@@ -1,6 +1,6 @@
 -- `vanc_cases::main` is safe and ends: at most 4,096 cases are done.
 -- Assumes nothing.
-use Prim.Native.Nat.{ℕ, _≤_}
+use Prim.Native.Nat.{_≤_}
 use borrow.Author.Needs.{needs}
 use Rattle.vanc_cases.proofs.main.Statement.{statement}
 use Rattle.vanc_cases.proofs.main.Tie as tie

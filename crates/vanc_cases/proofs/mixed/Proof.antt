@@ -1,6 +1,6 @@
 -- `vanc_cases::mixed` is safe and ends.
 -- Assumes nothing.
-use Prim.Native.Nat.{ℕ, _+_, _*_, _-_, _≤_}
+use Prim.Native.Nat.{_-_, _≤_}
 use lib.ListN.{length}
 use borrow.Author.Needs.{needs}
 use Rattle.vanc_cases.proofs.mixed.Statement.{statement}

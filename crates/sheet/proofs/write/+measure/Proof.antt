@@ -9,7 +9,7 @@ use Rattle.sheet.proofs.WriteLaws.{measure-none, measure-few, measure-c
 use Rattle.sheet.proofs.write.measure.Reads as measure
 use Rattle.sheet.proofs.write.measure.Kinds as measure-kinds
 use Rattle.sheet.proofs.write.+measure.Lts-measure as measure-lts
-use Rattle.sheet.proofs.write.wide.Reads as wide-reads
+use Rattle.frame.proofs.wide.Reads as wide-reads
 use Rattle.sheet.proofs.write.+measure.{statement}
 use Rattle.sheet.proofs.write.+measure.Tie.{close}
 
