@@ -3,11 +3,11 @@
 set -euo pipefail
 cd "$(dirname "$0")/.."
 . tests/machine.sh
-rt check lister layer reader >/dev/null
 
 top=$PWD
 work=$(mktemp -d)
 trap 'rm -rf "$work"' EXIT
+rt check lister layer reader >"$work/log" 2>&1 || { cat "$work/log"; exit 1; }
 cd "$work"
 done_tests=0
 
