@@ -1,0 +1,87 @@
+//! Cases: what a call is given, and how the calls are shared out.
+
+use crate::random::Random;
+use crate::rules::{self, system, System};
+use crate::{lay_cases, read_cases, walk_cases};
+
+/// What a call is given.
+#[derive(Clone, PartialEq)]
+pub enum Call {
+    Lay { sheet: Vec<u16>, packing: u64, area: Vec<u8> },
+    Read { system: u64, area: Vec<u8>, buffer: Vec<u16> },
+    Walk { system: u64, string: Vec<u8>, place: u64 },
+}
+
+/// What a call gives back: the result's fields in the header's order (then 0), guards that were changed, and the lent buffer.
+#[derive(PartialEq)]
+pub struct Answer {
+    pub fields: [u64; 5],
+    pub changed: u64,
+    pub area: Vec<u8>,
+    pub buffer: Vec<u16>,
+}
+
+/// A call, and a name for how it was chosen.
+pub struct Case {
+    pub kind: String,
+    pub call: Call,
+}
+
+/// Unknown systems and packings, also those that are 1 or 2 in their low 8, 16 or 32 bits.
+pub const UNKNOWN: [u64; 13] =
+    [0, 4, 5, 255, 257, 258, 65_537, 65_538, (1 << 32) + 1, (1 << 32) + 2, (1 << 63) + 1, u64::MAX - 1, u64::MAX];
+
+pub const LAY: usize = 0;
+pub const READ: usize = 1;
+pub const WALK: usize = 2;
+pub const NAMES: [&str; 3] = ["lay", "read", "walk"];
+
+impl Call {
+    pub fn which(&self) -> usize {
+        match self {
+            Call::Lay { .. } => LAY,
+            Call::Read { .. } => READ,
+            Call::Walk { .. } => WALK,
+        }
+    }
+
+    /// The answer by document 01.
+    pub fn expected(&self) -> Answer {
+        let mut answer = Answer { fields: [0; 5], changed: 0, area: Vec::new(), buffer: Vec::new() };
+        match self {
+            Call::Lay { sheet, packing, area } => {
+                let laid = rules::lay(sheet, *packing, area);
+                answer.fields = [laid.number, laid.place, laid.packs, laid.bytes, 0];
+                answer.area = laid.area;
+            }
+            Call::Read { system, area, buffer } => {
+                let back = rules::read(*system, area, buffer);
+                answer.fields = [back.number, back.place, back.packing, back.packets, back.numbers];
+                answer.buffer = back.buffer;
+            }
+            Call::Walk { system, string, place } => {
+                let step = rules::walk(*system, string, *place);
+                answer.fields = [step.number, step.place, step.length, 0, 0];
+            }
+        }
+        answer
+    }
+}
+
+pub fn any_system(random: &mut Random) -> System {
+    system(random.between(1, 3) as u64).expect("1 to 3 are systems")
+}
+
+pub fn make(seed: u64, case: u64) -> Case {
+    let mut random = Random::of_case(seed, case);
+    match random.weighted(&[42, 42, 16]) {
+        LAY => lay_cases::make(&mut random),
+        READ => read_cases::make(&mut random),
+        _ => walk_cases::make(&mut random),
+    }
+}
+
+/// Lengths that are not the area's: none, one or one block more or less, another system's, the same in 16 bits.
+pub fn wrong_length(random: &mut Random, right: usize) -> usize {
+    random.pick(&[0, 1, 80, right - 1, right + 1, right - 80, right + 80, 9_600 + 11_520 - right, right + 65_536])
+}

@@ -1,0 +1,146 @@
+//! Lists of sound packets, from none to more than a frame holds.
+
+use crate::packet::Packet;
+use crate::random::Random;
+use crate::rules::{room, System, MOST_PACKETS};
+
+pub const BYTES: [u8; 5] = [0xFF, 0xE1, 0xE2, 0xE3, 0x00];
+const DCS: [usize; 8] = [0, 1, 2, 3, 4, 5, 254, 255];
+
+/// Packets, and a name for how they were chosen.
+pub struct List {
+    pub kind: String,
+    pub packets: Vec<Packet>,
+}
+
+/// A list for laying in the packing. Whether it has room is left open.
+pub fn list(random: &mut Random, system: &System, packing: u64) -> List {
+    let blocks = system.blocks();
+    let (kind, dcs) = match random.weighted(&[56, 12, 14, 12, 3, 3]) {
+        0 => ("0 to 3 packets".to_string(), short(random)),
+        1 => ("4 to 40 packets".to_string(), middle(random)),
+        2 => {
+            let first = random.between(1, 9);
+            let total = near(random, room(&blocks[..first], packing));
+            ("about a block's end".to_string(), dcs_of_total(random, total, packing))
+        }
+        3 => full(random, system, packing),
+        4 => {
+            let count = random.between(MOST_PACKETS - 1, MOST_PACKETS);
+            (format!("{count} packets"), (0..count).map(|_| random.pick(&[0, 0, 0, 1, 2, 5])).collect())
+        }
+        _ => {
+            let count = random.between(1, 8) + MOST_PACKETS;
+            ("over 512 packets".to_string(), (0..count).map(|_| random.pick(&[0, 0, 0, 1, 2])).collect())
+        }
+    };
+    List { kind, packets: dcs.into_iter().map(|dc| packet(random, system.last_line, dc)).collect() }
+}
+
+fn short(random: &mut Random) -> Vec<usize> {
+    (0..random.below(4)).map(|_| if random.chance(70) { random.pick(&DCS[..6]) } else { any_dc(random) }).collect()
+}
+
+fn middle(random: &mut Random) -> Vec<usize> {
+    (0..random.between(4, 40)).map(|_| if random.chance(90) { random.below(20) } else { any_dc(random) }).collect()
+}
+
+fn any_dc(random: &mut Random) -> usize {
+    if random.chance(50) {
+        random.pick(&DCS)
+    } else {
+        random.below(256)
+    }
+}
+
+fn near(random: &mut Random, total: usize) -> usize {
+    match random.below(6) {
+        0 => total - 1,
+        1 => total + 1,
+        _ => total,
+    }
+}
+
+/// A whole frame: exactly full, one over it, or one short of it.
+fn full(random: &mut Random, system: &System, packing: u64) -> (String, Vec<usize>) {
+    let total = room(&system.blocks(), packing);
+    let (name, total) = random.pick(&[("full", total), ("full", total), ("one over", total + 1), ("one short", total - 1)]);
+    let unit = if packing == 1 { "packs" } else { "string bytes" };
+    (format!("system {} {name}: {total} {unit}", system.number), dcs_of_total(random, total, packing))
+}
+
+/// The DCs of packets that take `total` packs in packing 1, `total` string bytes in packing 2. At most 512 packets.
+pub fn dcs_of_total(random: &mut Random, total: usize, packing: u64) -> Vec<usize> {
+    let (least, most) = if packing == 1 { (2, 66) } else { (7, 262) };
+    let fewest = (total + most - 1) / most;
+    let greatest = (total / least).min(MOST_PACKETS);
+    let count = match random.below(3) {
+        0 => fewest,
+        1 => greatest,
+        _ => random.between(fewest, greatest),
+    };
+    let mut parts = shares(random, total - count * least, count, most - least);
+    if packing == 1 {
+        for part in parts.iter_mut().filter(|part| **part > 0) {
+            let unused = random.pick(&[0, 0, 1, 2, 3]);
+            *part = (*part * 4 - unused).min(255);
+        }
+    }
+    parts
+}
+
+/// `total` in `count` parts, none over `most`.
+fn shares(random: &mut Random, total: usize, count: usize, most: usize) -> Vec<usize> {
+    let mut parts: Vec<usize> = (0..count).map(|k| total / count + usize::from(k < total % count)).collect();
+    for _ in 0..2 * count {
+        let (from, to) = (random.below(count), random.below(count));
+        if from != to {
+            let moved = random.between(0, parts[from].min(most - parts[to]));
+            parts[from] -= moved;
+            parts[to] += moved;
+        }
+    }
+    parts
+}
+
+/// A sound packet with DC user words.
+pub fn packet(random: &mut Random, last_line: u16, dc: usize) -> Packet {
+    let mut bytes = some_bytes(random, 2);
+    bytes.push(dc as u8);
+    let user = some_bytes(random, dc);
+    bytes.extend(user);
+    if random.chance(20) {
+        end_in_ff(&mut bytes);
+    }
+    Packet { line: line(random, last_line), flags: random.below(4) as u16, bytes }
+}
+
+/// Noise, one value throughout, or noise that is dense in FFh, E1h, E2h, E3h and 00h.
+fn some_bytes(random: &mut Random, length: usize) -> Vec<u8> {
+    let (one, dense) = (random.pick(&BYTES), random.pick(&[0, 50, 100]));
+    if random.chance(25) {
+        return vec![one; length];
+    }
+    (0..length).map(|_| if random.chance(dense) { random.pick(&BYTES) } else { random.byte() }).collect()
+}
+
+/// Changes the last user byte, or SDID where there is none, so that the CS byte is FFh.
+fn end_in_ff(bytes: &mut [u8]) {
+    let changed = if bytes.len() > 3 { bytes.len() - 1 } else { 1 };
+    let sum = bytes.iter().fold(0u8, |sum, &byte| sum.wrapping_add(byte));
+    bytes[changed] = bytes[changed].wrapping_add(0xFF_u8.wrapping_sub(sum));
+}
+
+/// None, the first, the last, lines that make a header byte FFh or 80h, or any.
+fn line(random: &mut Random, last_line: u16) -> u16 {
+    match random.below(12) {
+        0..=2 => 0,
+        3 => 1,
+        4 => 127,
+        5 => last_line,
+        6 => 255,
+        7 => 256,
+        8 => 383,
+        _ => 1 + random.below(last_line as usize) as u16,
+    }
+}

@@ -1,0 +1,92 @@
+//! The ten-bit packet, its DANC bytes and the sheet. Quotations are from document 01.
+
+/// A packet and its location. `bytes` are the low eight bits of DID, SDID or DBN, DC and the user words.
+#[derive(Clone)]
+pub struct Packet {
+    pub line: u16,
+    pub flags: u16,
+    pub bytes: Vec<u8>,
+}
+
+/// "bit 9 is the inverse of bit 8"
+pub fn with_bit_9(nine_bits: u16) -> u16 {
+    if nine_bits & 0x100 == 0 {
+        nine_bits | 0x200
+    } else {
+        nine_bits
+    }
+}
+
+/// "bit 8 makes the count of ones in bits 8 to 0 even, and bit 9 is the inverse of bit 8"
+pub fn parity_word(byte: u8) -> u16 {
+    let bit_8 = byte.count_ones() as u16 % 2;
+    with_bit_9(bit_8 << 8 | byte as u16)
+}
+
+/// "CS holds in bits 8 to 0 the sum, modulo 512, of the low nine bits of DID through the last user word; its bit 9 is the inverse of
+/// its bit 8."
+pub fn checksum_word(bytes: &[u8]) -> u16 {
+    let mut sum = 0;
+    for &byte in bytes {
+        sum = (sum + (parity_word(byte) & 0x1FF)) % 512;
+    }
+    with_bit_9(sum)
+}
+
+/// "Ten-bit words: 000h, 3FFh, 3FFh; DID; SDID or DBN; DC; DC user words (0 to 255); CS."
+pub fn words(packet: &Packet) -> Vec<u16> {
+    let mut words = vec![0x000, 0x3FF, 0x3FF];
+    words.extend(packet.bytes.iter().map(|&byte| parity_word(byte)));
+    words.push(checksum_word(&packet.bytes));
+    words
+}
+
+/// "Header byte 0: LE in bit 7, line bits 6 to 0 below it. Header byte 1: FI in bit 7, reserved bits 6 and 5, YCF in bit 4, line bits
+/// 10 to 7 in bits 3 to 0. Header byte 2: reserved." - "With no line, LE and all line bits are written 0". "Reserved bits are written 1".
+fn header(line: u16, flags: u16) -> [u8; 3] {
+    let le = if line == 0 { 0x00 } else { 0x80 };
+    let fi = if flags & 1 == 0 { 0x00 } else { 0x80 };
+    let ycf = if flags & 2 == 0 { 0x00 } else { 0x10 };
+    [le | (line % 128) as u8, fi | 0x60 | ycf | (line / 128) as u8, 0xFF]
+}
+
+/// "Three header bytes stand in place of the flag, then the low eight bits of each word, CS included."
+pub fn danc(packet: &Packet) -> Vec<u8> {
+    let mut bytes = header(packet.line, packet.flags).to_vec();
+    bytes.extend(&packet.bytes);
+    bytes.push(checksum_word(&packet.bytes) as u8);
+    bytes
+}
+
+/// The packet of DANC bytes, or 15 or 16. `danc` holds exactly DC + 7 bytes.
+pub fn from_danc(danc: &[u8], last_line: u16) -> Result<Packet, u64> {
+    let (bytes, checksum) = (&danc[3..danc.len() - 1], danc[danc.len() - 1]);
+    // "15: stored CS byte is not the sum's low byte"
+    if checksum != checksum_word(bytes) as u8 {
+        return Err(15);
+    }
+    // "a reader disregards line bits when LE is 0"
+    let mut line = 0;
+    if danc[0] & 0x80 != 0 {
+        line = (danc[1] % 16) as u16 * 128 + (danc[0] % 128) as u16;
+        // "16: LE is 1 and the line is 0 or past the last"
+        if line == 0 || line > last_line {
+            return Err(16);
+        }
+    }
+    let (fi, ycf) = (danc[1] >> 7, danc[1] >> 4 & 1);
+    Ok(Packet { line, flags: (fi + 2 * ycf) as u16, bytes: bytes.to_vec() })
+}
+
+/// "A: the count 1, then the system. B: the count P of locations, then P pairs: line [..] and flags [..]. C: the count W of words, then
+/// W words: packets back to back."
+pub fn sheet(system: u64, packets: &[Packet]) -> Vec<u16> {
+    let mut sheet = vec![1, system as u16, packets.len() as u16];
+    for packet in packets {
+        sheet.extend([packet.line, packet.flags]);
+    }
+    let words: Vec<u16> = packets.iter().flat_map(words).collect();
+    sheet.push(words.len() as u16);
+    sheet.extend(words);
+    sheet
+}

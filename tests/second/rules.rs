@@ -1,0 +1,372 @@
+//! Laying, reading and walking by document 01, written a second time and as plainly as it goes. Quotations are from document 01.
+
+use crate::packet::{checksum_word, danc, from_danc, parity_word, sheet, Packet};
+
+/// What laying gives back, and the area after it.
+pub struct Laid {
+    pub number: u64,
+    pub place: u64,
+    pub packs: u64,
+    pub bytes: u64,
+    pub area: Vec<u8>,
+}
+
+/// What reading gives back, and the sheet buffer after it.
+pub struct ReadBack {
+    pub number: u64,
+    pub place: u64,
+    pub packing: u64,
+    pub packets: u64,
+    pub numbers: u64,
+    pub buffer: Vec<u16>,
+}
+
+/// What a step of the walker gives back.
+pub struct Step {
+    pub number: u64,
+    pub place: u64,
+    pub length: u64,
+}
+
+/// A refusal's number and place.
+type Refusal = (u64, u64);
+
+fn refuse_if(fault: bool, number: u64, place: usize) -> Result<(), Refusal> {
+    if fault {
+        Err((number, place as u64))
+    } else {
+        Ok(())
+    }
+}
+
+/// "Each system carries its figures under its own name."
+pub struct System {
+    pub number: u64,
+    pub sequences: usize,
+    pub last_line: u16,
+}
+
+/// The table of "Three systems".
+pub fn system(number: u64) -> Option<System> {
+    match number {
+        1 => Some(System { number, sequences: 10, last_line: 1125 }),
+        2 => Some(System { number, sequences: 12, last_line: 1125 }),
+        3 => Some(System { number, sequences: 10, last_line: 750 }),
+        _ => None,
+    }
+}
+
+impl System {
+    /// "The area holds only VAUX blocks of 80 bytes", 3 to a sequence, in 4 channels.
+    pub fn area_bytes(&self) -> usize {
+        80 * 3 * 4 * self.sequences
+    }
+
+    /// The places of each block's user bytes, in laying order: "by sequence, within it by block, within it by channel".
+    pub fn blocks(&self) -> Vec<Vec<usize>> {
+        let mut blocks = Vec::new();
+        for q in 0..self.sequences {
+            for j in 0..3 {
+                for i in 0..4 {
+                    // "Block j (0 to 2) of sequence q of channel i (0 to 3) starts at 80 x (3 x (n x i + q) + j)."
+                    let start = 80 * (3 * (self.sequences * i + q) + j);
+                    // "User bytes are 3 to 77 (75 bytes), but 3 to 47 in block 2 of an even sequence and 33 to 77 in block 0 of an odd
+                    // one (45 bytes)"
+                    let user = match (q % 2, j) {
+                        (0, 2) => 3..=47,
+                        (1, 0) => 33..=77,
+                        _ => 3..=77,
+                    };
+                    blocks.push(user.map(|byte| start + byte).collect());
+                }
+            }
+        }
+        blocks
+    }
+}
+
+/// "P is at most 512."
+pub const MOST_PACKETS: usize = 512;
+
+// Laying.
+
+/// "On refusal the later figures are 0 and the area [..] is unchanged."
+pub fn lay(sheet: &[u16], packing: u64, area: &[u8]) -> Laid {
+    laying(sheet, packing, area).unwrap_or_else(|(number, place)| Laid { number, place, packs: 0, bytes: 0, area: area.to_vec() })
+}
+
+/// "Laying tests 1 to 6 in table order. Then packet by packet: 7; 8 on DID, SDID and DC; 9; 8 on the user words; 10. Then 11, 12."
+fn laying(sheet: &[u16], packing: u64, area: &[u8]) -> Result<Laid, Refusal> {
+    refuse_if(packing != 1 && packing != 2, 1, 0)?;
+    let sections = sections(sheet).ok_or((2, 0))?;
+    let system = system(sections.system as u64).ok_or((3, 0))?;
+    refuse_if(area.len() != system.area_bytes(), 4, 0)?;
+    let locations: Vec<(u16, u16)> = sections.locations.chunks(2).map(|pair| (pair[0], pair[1])).collect();
+    refuse_if(locations.len() > MOST_PACKETS, 5, 0)?;
+    for (k, &(line, flags)) in locations.iter().enumerate() {
+        refuse_if(line > system.last_line || flags > 3, 6, k)?;
+    }
+    let packets = packets_of_words(sections.words)?;
+    refuse_if(packets.len() != locations.len(), 11, 0)?;
+    let mut dancs = Vec::new();
+    for (bytes, (line, flags)) in packets.into_iter().zip(locations) {
+        dancs.push(danc(&Packet { line, flags, bytes }));
+    }
+    let (blocks, string) = (system.blocks(), dancs.concat());
+    // "12: over the packs (packing 1) or string bytes (packing 2)"
+    let used = if packing == 1 { packs_of_five(&dancs).len() } else { string.len() };
+    refuse_if(used > room(&blocks, packing), 12, 0)?;
+    let packs = if packing == 1 { packs_of_five(&dancs) } else { long_packs(&string, &blocks) };
+    Ok(Laid {
+        number: 0,
+        place: 0,
+        packs: packs.len() as u64,
+        bytes: string.len() as u64,
+        area: area_with(area, &blocks, &packs.concat()),
+    })
+}
+
+/// A sheet's system and the numbers of sections B and C, without their counts.
+struct Sections<'a> {
+    system: u16,
+    locations: &'a [u16],
+    words: &'a [u16],
+}
+
+/// None for "section A's count is not 1, the sheet ends early, or numbers follow section C".
+fn sections(sheet: &[u16]) -> Option<Sections<'_>> {
+    if *sheet.first()? != 1 {
+        return None;
+    }
+    let system = *sheet.get(1)?;
+    let from_b = &sheet[2..];
+    let p = *from_b.first()? as usize;
+    let locations = from_b.get(1..1 + 2 * p)?;
+    let from_c = &from_b[1 + 2 * p..];
+    let w = *from_c.first()? as usize;
+    let words = from_c.get(1..1 + w)?;
+    if from_c.len() > 1 + w {
+        return None;
+    }
+    Some(Sections { system, locations, words })
+}
+
+/// DID to the last user byte of each packet, or the first refusal 7 to 10.
+fn packets_of_words(words: &[u16]) -> Result<Vec<Vec<u8>>, Refusal> {
+    let mut packets: Vec<Vec<u8>> = Vec::new();
+    let mut left = words;
+    while !left.is_empty() {
+        let k = packets.len();
+        // "7: fewer than 7 words left, or no 000h 3FFh 3FFh"
+        refuse_if(left.len() < 7 || left[..3] != [0x000, 0x3FF, 0x3FF], 7, k)?;
+        // "8: a word from DID to the last user word is not its low byte with right bits above"
+        let wrong = |word: &u16| *word != parity_word(*word as u8);
+        refuse_if(left[3..6].iter().any(wrong), 8, k)?;
+        // "9: fewer than DC + 7 words left"
+        let dc = (left[5] & 0xFF) as usize;
+        refuse_if(left.len() < dc + 7, 9, k)?;
+        refuse_if(left[6..6 + dc].iter().any(wrong), 8, k)?;
+        let bytes: Vec<u8> = left[3..6 + dc].iter().map(|&word| word as u8).collect();
+        // "10: CS wrong"
+        refuse_if(left[6 + dc] != checksum_word(&bytes), 10, k)?;
+        packets.push(bytes);
+        left = &left[dc + 7..];
+    }
+    Ok(packets)
+}
+
+/// The frame's packs in packing 1, its string bytes in packing 2: "User bytes split into 15 or 9 packs", "72 or 42 string bytes".
+pub fn room(blocks: &[Vec<usize>], packing: u64) -> usize {
+    blocks.iter().map(|block| if packing == 1 { block.len() / 5 } else { block.len() - 3 }).sum()
+}
+
+/// "A starter pack is E1h, a reserved byte, and the three header bytes. A carrier is E2h and four further bytes; the last carrier's
+/// unused bytes are FFh." - "Packets follow each other in the next pack, across blocks."
+pub fn packs_of_five(dancs: &[Vec<u8>]) -> Vec<Vec<u8>> {
+    let mut packs = Vec::new();
+    for danc in dancs {
+        packs.push(vec![0xE1, 0xFF, danc[0], danc[1], danc[2]]);
+        for four in danc[3..].chunks(4) {
+            let mut carrier = vec![0xE2];
+            carrier.extend(four);
+            carrier.resize(5, 0xFF);
+            packs.push(carrier);
+        }
+    }
+    packs
+}
+
+/// "One pack of 75 or 45 bytes per block: E3h; a byte with END in bit 0, the others reserved; a third byte not used for the string,
+/// treated as reserved [..]; then 72 or 42 string bytes. END is 1, but 0 in the pack that holds the string's last byte. The unused end of
+/// that pack is FFh." The string has room in the blocks.
+pub fn long_packs(string: &[u8], blocks: &[Vec<usize>]) -> Vec<Vec<u8>> {
+    let mut packs = Vec::new();
+    let mut left = string;
+    for block in blocks {
+        if left.is_empty() {
+            break;
+        }
+        let here = left.len().min(block.len() - 3);
+        let end = if here == left.len() { 0xFE } else { 0xFF };
+        let mut pack = vec![0xE3, end, 0xFF];
+        pack.extend(&left[..here]);
+        pack.resize(block.len(), 0xFF);
+        packs.push(pack);
+        left = &left[here..];
+    }
+    packs
+}
+
+/// The area with `user` as its first user bytes. "All other user bytes are FFh."
+pub fn area_with(area: &[u8], blocks: &[Vec<usize>], user: &[u8]) -> Vec<u8> {
+    let mut area = area.to_vec();
+    for (k, &place) in blocks.concat().iter().enumerate() {
+        area[place] = *user.get(k).unwrap_or(&0xFF);
+    }
+    area
+}
+
+// Reading.
+
+/// "On refusal the later figures are 0 and [..] the sheet buffer, is unchanged. On success the sheet buffer past the sheet is unchanged."
+pub fn read(system_number: u64, area: &[u8], buffer: &[u16]) -> ReadBack {
+    let mut back = ReadBack { number: 0, place: 0, packing: 0, packets: 0, numbers: 0, buffer: buffer.to_vec() };
+    match reading(system_number, area, buffer.len()) {
+        Err((number, place)) => (back.number, back.place) = (number, place),
+        Ok((packing, packets)) => {
+            let sheet = sheet(system_number, &packets);
+            back.buffer[..sheet.len()].copy_from_slice(&sheet);
+            back.packing = packing;
+            back.packets = packets.len() as u64;
+            back.numbers = sheet.len() as u64;
+        }
+    }
+    back
+}
+
+/// The packing found and the packets. "Reading tests 3, 4, 13, then packet by packet 5 (only a 513th), 14, 15, 16, then 17."
+fn reading(system_number: u64, area: &[u8], room: usize) -> Result<(u64, Vec<Packet>), Refusal> {
+    let system = system(system_number).ok_or((3, 0))?;
+    refuse_if(area.len() != system.area_bytes(), 4, 0)?;
+    let blocks: Vec<Vec<u8>> = system.blocks().iter().map(|block| block.iter().map(|&place| area[place]).collect()).collect();
+    let (packing, packets) = match blocks[0][0] {
+        // "The first user byte in laying order is FFh and so is every other."
+        0xFF => {
+            refuse_if(!is_fill(&blocks.concat()), 13, 0)?;
+            (0, Vec::new())
+        }
+        0xE1 => (1, packets_of_starters(&starters(&blocks.concat()).ok_or((13, 0))?, &system)?),
+        0xE3 => (2, packets_of_string(&string_of_long_packs(&blocks).ok_or((13, 0))?, &system)?),
+        _ => return Err((13, 0)),
+    };
+    // "17: the sheet is longer than its buffer"
+    refuse_if(sheet(system_number, &packets).len() > room, 17, 0)?;
+    Ok((packing, packets))
+}
+
+fn is_fill(bytes: &[u8]) -> bool {
+    bytes.iter().all(|&byte| byte == 0xFF)
+}
+
+/// For each starter its header bytes and all bytes of its carriers. None (for 13) unless "every pack is a starter, a carrier or five FFh,
+/// each starter has a carrier after it, and nothing but fill follows fill".
+fn starters(user: &[u8]) -> Option<Vec<Vec<u8>>> {
+    let packs: Vec<&[u8]> = user.chunks(5).collect();
+    let mut starters: Vec<Vec<u8>> = Vec::new();
+    for (k, pack) in packs.iter().enumerate() {
+        let after_fill = k > 0 && is_fill(packs[k - 1]);
+        match pack[0] {
+            0xE1 if !after_fill && packs.get(k + 1).map_or(false, |next| next[0] == 0xE2) => {
+                starters.push(pack[2..].to_vec());
+            }
+            0xE2 if !after_fill => starters.last_mut()?.extend(&pack[1..]),
+            _ if is_fill(pack) => {}
+            _ => return None,
+        }
+    }
+    Some(starters)
+}
+
+/// "14, packing 1: a starter's carriers are not exactly as many as its DC needs, or the unused bytes are not FFh."
+fn packets_of_starters(starters: &[Vec<u8>], system: &System) -> Result<Vec<Packet>, Refusal> {
+    let mut packets = Vec::new();
+    for (k, bytes) in starters.iter().enumerate() {
+        // "5: reading: after 512 packets, not the end"
+        refuse_if(k == MOST_PACKETS, 5, MOST_PACKETS)?;
+        // Seven bytes and the user bytes: three in the starter, four in each carrier.
+        let length = bytes[5] as usize + 7;
+        let carriers = length / 4; // the other length - 3 bytes by fours, rounded up
+        refuse_if(bytes.len() != 3 + 4 * carriers || !is_fill(&bytes[length..]), 14, k)?;
+        packets.push(from_danc(&bytes[..length], system.last_line).map_err(|number| (number, k as u64))?);
+    }
+    Ok(packets)
+}
+
+/// The string bytes of all packs, and which of them is the last pack's first.
+struct LongString {
+    bytes: Vec<u8>,
+    last_pack: usize,
+}
+
+/// None (for 13) unless "the packs run from the first block without a gap, only the last has END 0, and every later user byte is FFh".
+fn string_of_long_packs(blocks: &[Vec<u8>]) -> Option<LongString> {
+    let mut bytes = Vec::new();
+    for (k, block) in blocks.iter().enumerate() {
+        if block[0] != 0xE3 {
+            return None;
+        }
+        let last_pack = bytes.len();
+        bytes.extend(&block[3..]);
+        if block[1] & 1 == 0 {
+            return is_fill(&blocks[k + 1..].concat()).then_some(LongString { bytes, last_pack });
+        }
+    }
+    None
+}
+
+/// "Packing 2: the string bytes of all packs are walked. At a packet boundary past the first string byte of the last pack, if all that
+/// remains is FFh or nothing remains, the walk ends; otherwise 14 is given if fewer than 7 or fewer than DC + 7 bytes remain."
+fn packets_of_string(string: &LongString, system: &System) -> Result<Vec<Packet>, Refusal> {
+    let mut packets = Vec::new();
+    let mut place = 0;
+    while !(place > string.last_pack && is_fill(&string.bytes[place..])) {
+        let k = packets.len();
+        // "5: reading: after 512 packets, not the end"
+        refuse_if(k == MOST_PACKETS, 5, MOST_PACKETS)?;
+        let danc = first_danc(&string.bytes[place..]).ok_or((14, k as u64))?;
+        packets.push(from_danc(danc, system.last_line).map_err(|number| (number, k as u64))?);
+        place += danc.len();
+    }
+    Ok(packets)
+}
+
+/// The DC + 7 bytes at the front. None (for 14) if "fewer than 7 or fewer than DC + 7 bytes remain".
+fn first_danc(string: &[u8]) -> Option<&[u8]> {
+    if string.len() < 7 {
+        return None;
+    }
+    string.get(..string[5] as usize + 7)
+}
+
+// Walking.
+
+/// "Each step gives the next packet's place and length, the string's end, or 14, 15 or 16, tested in that order, for that packet." - "an
+/// unknown system is 3 at place 0, even with nothing to walk." - "a place past the string's end answers the end."
+pub fn walk(system_number: u64, string: &[u8], place: u64) -> Step {
+    let system = match system(system_number) {
+        Some(system) => system,
+        None => return Step { number: 3, place: 0, length: 0 },
+    };
+    if place >= string.len() as u64 {
+        return Step { number: 0, place, length: 0 };
+    }
+    // "a refusal carries the place where that packet starts"
+    let danc = match first_danc(&string[place as usize..]) {
+        Some(danc) => danc,
+        None => return Step { number: 14, place, length: 0 },
+    };
+    match from_danc(danc, system.last_line) {
+        Ok(_) => Step { number: 0, place, length: danc.len() as u64 },
+        Err(number) => Step { number, place, length: 0 },
+    }
+}

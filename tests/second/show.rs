@@ -1,0 +1,132 @@
+//! Calls and answers as people read them.
+
+use crate::cases::{Answer, Call, NAMES};
+
+const FIELDS: [&[&str]; 3] =
+    [&["number", "place", "packs", "bytes"], &["number", "place", "packing", "packets", "numbers"], &["number", "place", "length"]];
+
+/// What a call is given, each part in at most `most` rows.
+pub fn show_call(call: &Call, most: usize) {
+    match call {
+        Call::Lay { sheet, packing, area } => {
+            println!("  lay, packing {packing}");
+            println!("  sheet of {} numbers, hex:", sheet.len());
+            show_rows(&sheet_rows(sheet), most);
+            println!("  area of {} bytes; those that are not FFh, by offset:", area.len());
+            show_rows(&area_rows(area), most);
+        }
+        Call::Read { system, area, buffer } => {
+            println!("  read, system {system}");
+            println!("  area of {} bytes; those that are not FFh, by offset:", area.len());
+            show_rows(&area_rows(area), most);
+            println!("  sheet buffer of {} numbers, hex:", buffer.len());
+            show_rows(&buffer.chunks(32).map(hex_numbers).collect::<Vec<_>>(), most);
+        }
+        Call::Walk { system, string, place } => {
+            println!("  walk, system {system}, place {place}");
+            println!("  string of {} bytes, hex:", string.len());
+            show_rows(&string.chunks(32).map(hex_bytes).collect::<Vec<_>>(), most);
+        }
+    }
+}
+
+fn show_rows(rows: &[String], most: usize) {
+    for row in rows.iter().take(most) {
+        println!("    {row}");
+    }
+    if rows.len() > most {
+        println!("    .. {} rows more: --case shows all", rows.len() - most);
+    }
+}
+
+fn hex_bytes(bytes: &[u8]) -> String {
+    bytes.iter().map(|byte| format!("{byte:02X}")).collect::<Vec<_>>().join(" ")
+}
+
+/// Numbers in hex, more than three equal ones in a row as one and how many.
+fn hex_numbers(numbers: &[u16]) -> String {
+    let mut shown = Vec::new();
+    let mut left = numbers;
+    while let Some(first) = left.first() {
+        let equal = left.iter().take_while(|&number| number == first).count();
+        if equal > 3 {
+            shown.push(format!("{first:X} ({equal} times)"));
+        } else {
+            shown.extend(vec![format!("{first:X}"); equal]);
+        }
+        left = &left[equal..];
+    }
+    shown.join(" ")
+}
+
+/// The sheet in rows: section A, section B, section C's count, and a row for each packet.
+fn sheet_rows(sheet: &[u16]) -> Vec<String> {
+    let section_b = sheet.len().min(2);
+    let count = sheet.get(2).map_or(0, |&count| count as usize);
+    let section_c = (3 + 2 * count).min(sheet.len());
+    let mut words = &sheet[(section_c + 1).min(sheet.len())..];
+    let mut rows = vec![
+        format!("A: {}", hex_numbers(&sheet[..section_b])),
+        format!("B: {}", hex_numbers(&sheet[section_b..section_c])),
+        format!("C: {}", hex_numbers(&sheet[section_c..sheet.len() - words.len()])),
+    ];
+    while !words.is_empty() {
+        let length = words.get(5).map_or(words.len(), |dc| (dc & 0xFF) as usize + 7).min(words.len());
+        rows.push(format!("   {}", hex_numbers(&words[..length])));
+        words = &words[length..];
+    }
+    rows
+}
+
+/// The bytes that are not FFh, in runs, by their offset.
+fn area_rows(area: &[u8]) -> Vec<String> {
+    let mut rows = Vec::new();
+    let mut at = 0;
+    while at < area.len() {
+        let run = area[at..].iter().take(80 - at % 80).take_while(|&&byte| byte != 0xFF).count();
+        if run > 0 {
+            rows.push(format!("{at:>6} (block at {:>5}, byte {:>2}): {}", at - at % 80, at % 80, hex_bytes(&area[at..at + run])));
+        }
+        at += run.max(1);
+    }
+    rows
+}
+
+pub fn show_answer(title: &str, call: &Call, answer: &Option<Answer>) {
+    let answer = match answer {
+        Some(answer) => answer,
+        None => return println!("  {title}: none, the answering program ended"),
+    };
+    let fields: Vec<String> = FIELDS[call.which()].iter().zip(answer.fields).map(|(name, value)| format!("{name} {value}")).collect();
+    println!("  {title}: {}", fields.join(", "));
+    if answer.changed != 0 {
+        println!("    changed beyond what was lent for writing (bits of answer.c): {}", answer.changed);
+    }
+}
+
+/// Where the lent buffers differ after the call, the first of it.
+pub fn show_difference(expected: &Answer, given: &Answer) {
+    let areas = expected.area.iter().zip(&given.area).map(|(&a, &b)| (a as u16, b as u16));
+    let buffers = expected.buffer.iter().zip(&given.buffer).map(|(&a, &b)| (a, b));
+    let pairs: Vec<(u16, u16)> = areas.chain(buffers).collect();
+    match pairs.iter().position(|(a, b)| a != b) {
+        Some(at) => {
+            let count = pairs.iter().filter(|(a, b)| a != b).count();
+            println!(
+                "  buffers after the call differ in {count} places, first at {at}: expected {:X}h, given {:X}h",
+                pairs[at].0, pairs[at].1
+            );
+        }
+        None => println!("  buffers after the call are equal"),
+    }
+}
+
+/// How often each number was met in each call, and which cannot be.
+pub fn show_numbers(met: &[[u64; 18]; 3], cannot: impl Fn(usize, usize) -> bool) {
+    println!("{:>8} {:>10} {:>10} {:>10}", "number", NAMES[0], NAMES[1], NAMES[2]);
+    for number in 0..18 {
+        let cell =
+            |call: usize| if cannot(call, number) && met[call][number] == 0 { "-".to_string() } else { met[call][number].to_string() };
+        println!("{number:>8} {:>10} {:>10} {:>10}", cell(0), cell(1), cell(2));
+    }
+}
