@@ -28,13 +28,12 @@ packet at 9 of 7 bytes'
 [ "$said" = "$expected"$'\n'"$walked"$'\n'"$last" ] || { echo "examples/frame.c printed:"; echo "$said"; exit 1; }
 echo "examples/frame.c: built and run"
 
-if [ "$(uname -m)" != x86_64 ]; then
-  echo "examples/frame.rs: skipped, this machine's rustc does not link x86-64 programs"
-elif ! command -v rustc >/dev/null; then
-  echo "examples/frame.rs: skipped, no rustc"
-else
+if [ "$(uname -m)" = x86_64 ]; then
+  need rustc rustc
   rustc --edition 2021 -O -L "$(dirname "$archive")" -l static=vanc examples/frame.rs -o "$work/frame_rs"
   said=$("$work/frame_rs")
   [ "$said" = "$expected"$'\n'"$last" ] || { echo "examples/frame.rs printed:"; echo "$said"; exit 1; }
   echo "examples/frame.rs: built and run"
+else
+  echo "examples/frame.rs: skipped, this machine's rustc does not link x86-64 programs"
 fi
