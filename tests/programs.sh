@@ -95,7 +95,8 @@ refused "no sheet" "" "nothing.sheet: No such file or directory" layer 1 nothing
 refused "no area" "" "nothing.area: No such file or directory" layer 1 cue.sheet nothing.area
 refused "a folder for the sheet" "" "kept: Is a directory" layer 1 kept frame.area
 refused "a folder for the area" "" "kept: Is a directory" layer 1 cue.sheet kept
-refused "an empty name" "" ": No such file or directory" layer 1 "" frame.area
+refused "an empty name" "" "SHEET: an empty name" layer 1 "" frame.area
+refused "a name that is too long" "" "AREA: File name too long" reader 1 "$(printf '%05000d' 1)" back.sheet
 refused "no arguments for the reader" "" "reader SYSTEM AREA SHEET" reader
 refused "system 4" "refused 3 at 0" "" reader 4 frame.area back.sheet
 refused "system 65537" "refused 3 at 0" "" reader 65537 frame.area back.sheet

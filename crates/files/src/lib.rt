@@ -25,7 +25,7 @@ fn digit(b: u8) -> u64
 }
 
 // A number in decimal digits, of at most 18.
-pub fn number_of(digits: &[u8]) -> u64 {
+fn number_of(digits: &[u8]) -> u64 {
     if digits.len() == 0 {
         return NOT_A_NUMBER;
     }
@@ -41,6 +41,36 @@ pub fn number_of(digits: &[u8]) -> u64 {
         }
         n = 10 * n + d;
         i += 1;
+    }
+    n
+}
+
+// The number that is argument i; `NOT_A_NUMBER` where it is none, which is then said.
+pub fn number_argument(i: usize, name: &[u8]) -> u64 {
+    let mut digits = [0u8; 64];
+    let k = os::arg(i, &mut digits);
+    let n = number_of(&digits[..k]);
+    if n == NOT_A_NUMBER {
+        say(name, b": not a number\n");
+    }
+    n
+}
+
+fn no_path(name: &[u8]) {
+    if os::errno() != 0 {
+        os::fail(name);
+        return;
+    }
+    say(name, b": an empty name\n");
+}
+
+// The file name that is argument i, at the start of a buffer: how long it is; 0 where there is none, which is then said.
+pub fn path_argument(i: usize, name: &[u8], path: &mut [u8]) -> usize
+    ensures { λ r. ⌜ Counts r (now (path .exit)) ⌝ }
+{
+    let n = os::arg(i, path);
+    if n == 0 {
+        no_path(name);
     }
     n
 }

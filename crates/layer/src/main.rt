@@ -74,22 +74,6 @@ fn lay_files(packing: u64, sheet: &[u8], area: &[u8]) {
     lay_and_replace(packing, sheet, &file[..n], area, &mut bytes[..m]);
 }
 
-fn with_packing(packing: u64) {
-    let mut sheet = io::buffer();
-    let n = os::arg(2, &mut sheet);
-    if os::errno() != 0 {
-        os::fail(b"SHEET");
-        return;
-    }
-    let mut area = io::buffer();
-    let m = os::arg(3, &mut area);
-    if os::errno() != 0 {
-        os::fail(b"AREA");
-        return;
-    }
-    lay_files(packing, &sheet[..n], &area[..m]);
-}
-
 fn main() {
     if os::arg_count() != 4 {
         files::say(
@@ -98,12 +82,13 @@ fn main() {
         );
         return;
     }
-    let mut digits = [0u8; 64];
-    let k = os::arg(1, &mut digits);
-    let packing = files::number_of(&digits[..k]);
-    if packing == files::NOT_A_NUMBER {
-        files::say(b"PACKING", b": not a number\n");
+    let packing = files::number_argument(1, b"PACKING");
+    let mut sheet = io::buffer();
+    let n = files::path_argument(2, b"SHEET", &mut sheet);
+    let mut area = io::buffer();
+    let m = files::path_argument(3, b"AREA", &mut area);
+    if packing == files::NOT_A_NUMBER || n == 0 || m == 0 {
         return;
     }
-    with_packing(packing);
+    lay_files(packing, &sheet[..n], &area[..m]);
 }

@@ -73,22 +73,6 @@ fn read_files(system: u64, area: &[u8], sheet: &[u8]) {
     read_and_replace(system, area, &bytes[..n], sheet);
 }
 
-fn with_system(system: u64) {
-    let mut area = io::buffer();
-    let n = os::arg(2, &mut area);
-    if os::errno() != 0 {
-        os::fail(b"AREA");
-        return;
-    }
-    let mut sheet = io::buffer();
-    let m = os::arg(3, &mut sheet);
-    if os::errno() != 0 {
-        os::fail(b"SHEET");
-        return;
-    }
-    read_files(system, &area[..n], &sheet[..m]);
-}
-
 fn main() {
     if os::arg_count() != 4 {
         files::say(
@@ -97,12 +81,13 @@ fn main() {
         );
         return;
     }
-    let mut digits = [0u8; 64];
-    let k = os::arg(1, &mut digits);
-    let system = files::number_of(&digits[..k]);
-    if system == files::NOT_A_NUMBER {
-        files::say(b"SYSTEM", b": not a number\n");
+    let system = files::number_argument(1, b"SYSTEM");
+    let mut area = io::buffer();
+    let n = files::path_argument(2, b"AREA", &mut area);
+    let mut sheet = io::buffer();
+    let m = files::path_argument(3, b"SHEET", &mut sheet);
+    if system == files::NOT_A_NUMBER || n == 0 || m == 0 {
         return;
     }
-    with_system(system);
+    read_files(system, &area[..n], &sheet[..m]);
 }
