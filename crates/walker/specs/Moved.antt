@@ -5,7 +5,6 @@ use mathlib.Core.List.{List}
 use denote.Ref.{RefT, now}
 use Rattle.rules.specs.Walker.{walk}
 use Rattle.rules.specs.declared.Step.{Step}
-use Rattle.frame.specs.declared.StringByte.{StringByte}
 use Rattle.walker.specs.declared.Walker.{Walker}
 use Rattle.walker.specs.declared.Walked.{Walked}
 
@@ -17,19 +16,16 @@ started sys s = record { system = sys; string = s; at = record { 0 = 0 } }
 abbrev pub answered : Walker → Step
 answered w = walk (w .system) (now (w .string)) (w .at .0)
 
--- "After the end or a refusal the place stays": only a packet has a length
-abbrev pub placeAfter : ℕ → List ℕ → ℕ → StringByte
-placeAfter sys s at = record { 0 = at + walk sys s at .length }
+-- one step from a place: the answer, and where the walker then stands. "After the end or a refusal the place stays": only a packet has a
+-- length
+abbrev pub walkedOn : ℕ → List ℕ → ℕ → Walked
+walkedOn sys s at = record { answer = walk sys s at; at = record { 0 = at + walk sys s at .length } }
 
 -- the same walker, its place moved by the length of its answer
 abbrev pub moved : Walker → Walker
-moved w = record { system = w .system; string = w .string; at = placeAfter (w .system) (now (w .string)) (w .at .0) }
+moved w = record { system = w .system; string = w .string; at = walkedOn (w .system) (now (w .string)) (w .at .0) .at }
 
 -- a walker after k steps
 abbrev pub movedTimes : ℕ → Walker → Walker
 movedTimes zero w = w
 movedTimes (suc k) w = moved (movedTimes k w)
-
--- one step from a place: the answer, and where the walker then stands
-abbrev pub walkedOn : ℕ → List ℕ → ℕ → Walked
-walkedOn sys s at = record { answer = walk sys s at; at = placeAfter sys s at }

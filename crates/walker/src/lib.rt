@@ -1,26 +1,35 @@
 // The walker over a DANC string. Document 01, "The walker". Quotations are from document 01.
-// The struct's functions are thin: the work is `danc::walk` and `place_after`, on a slice and numbers. They are proved by walks of their
-// MIR, by hand; so is `next`, which holds a walker in a local, and whoever calls `next` needs no walk.
+// The struct's functions are thin: the work is `walked_on`, on a slice and numbers. They are proved by walks of their MIR, by hand; so is
+// `next`, which holds a walker in a local, and whoever calls `next` needs no walk.
 use danc::walk;
 use frame::StringByte;
 use rules::Step;
 ghost use mathlib.Core.Path.{_≡_};
 ghost use Rattle.rules.specs.Walker.{answer};
-ghost use Rattle.walker.specs.Moved.{started, answered, placeAfter, moved, walkedOn};
+ghost use Rattle.walker.specs.Moved.{started, answered, moved, walkedOn};
 
-// "The walker keeps the lent string and its place in it." The fields stand in the order in which `danc::walk` takes them.
+// "The walker keeps the lent string and its place in it." The fields stand in the order in which `walked_on` takes them.
 pub struct Walker<'a> {
     pub system: u64,
     pub string: &'a [u8],
     pub at: StringByte,
 }
 
-// Where the walker stands after its answer. The sum fits: only a packet has a length, and a packet lies within the string.
-fn place_after(system: u64, string: &[u8], place: StringByte) -> StringByte
-    ensures { λ r. ⌜ r ≡ placeAfter system (now (string .entry)) (place .0) ⌝ }
+// An answer, and where the walker then stands.
+pub struct Walked {
+    pub answer: Step,
+    pub at: StringByte,
+}
+
+// What stands at a place, and where a walker then stands. The sum fits: only a packet has a length, and a packet lies within the string.
+fn walked_on(system: u64, string: &[u8], place: StringByte) -> Walked
+    ensures { λ r. ⌜ r ≡ walkedOn system (now (string .entry)) (place .0) ⌝ }
 {
     let answer = walk(system, string, place);
-    StringByte(place.0 + answer.length)
+    Walked {
+        answer: answer,
+        at: StringByte(place.0 + answer.length),
+    }
 }
 
 impl<'a> Walker<'a> {
@@ -40,18 +49,10 @@ impl<'a> Walker<'a> {
     pub fn step<'s>(&'s mut self) -> Step
         ensures { λ r. ⌜ (r ≡ answered (now (self .entry))) × (now (self .exit) ≡ moved (now (self .entry))) ⌝ }
     {
-        let system = self.system;
-        let string = self.string;
-        let at = self.at;
-        self.at = place_after(system, string, at);
-        walk(system, string, at)
+        let on = walked_on(self.system, self.string, self.at);
+        self.at = on.at;
+        on.answer
     }
-}
-
-// What `next` gives back: the answer, and where the walker then stands.
-pub struct Walked {
-    pub answer: Step,
-    pub at: StringByte,
 }
 
 // One step of a walker at any place: "a place past the string's end answers the end".

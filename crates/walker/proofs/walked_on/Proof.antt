@@ -1,11 +1,11 @@
--- `walker::place_after` meets its contract: the place and the length of its answer, whose sum is a number of the machine.
+-- `walker::walked_on` meets its contract: the answer, and the sum of the place and its length, which is a number of the machine.
 -- Assumes nothing.
 use Prim.Native.Nat.{_<_, _^_}
 use lib.ListN.{length}
 use borrow.Author.Needs.{needs}
 use Rattle.walker.proofs.Laws.{place-fits}
-use Rattle.walker.proofs.place_after.Statement.{statement}
-use Rattle.walker.proofs.place_after.Tie as tie
+use Rattle.walker.proofs.walked_on.Statement.{statement}
+use Rattle.walker.proofs.walked_on.Tie as tie
 
 walk-requires : tie.Need-walk-requires
 walk-requires c κs = search needs
@@ -20,5 +20,5 @@ add-t5 c =
 returns : tie.Need-returns
 returns c = rw (c .before .before .walk .ensures)
 
-pub place-after-spec : {M : Type 1} → statement M
-place-after-spec = tie.close (tie.spec walk-requires add-t5 returns)
+pub walked-on-spec : {M : Type 1} → statement M
+walked-on-spec = tie.close (tie.spec walk-requires add-t5 returns)
