@@ -9,7 +9,7 @@ need nm binutils
 work=$(mktemp -d)
 trap 'rm -rf "$work"' EXIT
 
-rt staticlib vanc >"$work/log" 2>&1 || { cat "$work/log"; exit 1; }
+quietly rt staticlib vanc
 archive=target/staticlib/libvanc.a
 
 nm "$archive" >"$work/symbols"

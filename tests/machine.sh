@@ -1,5 +1,6 @@
 # What this machine has. Sourced: `need COMMAND PACKAGE` installs a Debian package where the command is missing; `run PROGRAM ..` runs an
-# x86-64 program, as all that the toolchain builds are, on any processor; `need_cc` sees to a C compiler for such programs, and `cc_for ..` calls it.
+# x86-64 program, as all that the toolchain builds are, on any processor; `need_cc` sees to a C compiler for such programs, and `cc_for ..` calls it;
+# `quietly COMMAND ..` shows what a command says only where it fails.
 
 as_root() {
   if [ "$(id -u)" = 0 ]; then "$@"; else sudo "$@"; fi
@@ -9,6 +10,14 @@ install_package() {
   echo "installing Debian's $1" >&2
   as_root apt-get update -qq >&2
   as_root env DEBIAN_FRONTEND=noninteractive apt-get install -y -qq --no-install-recommends "$1" >/dev/null
+}
+
+quietly() {
+  local said
+  said=$("$@" 2>&1) || {
+    printf '%s\n' "$said" >&2
+    return 1
+  }
 }
 
 need() {

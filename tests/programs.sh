@@ -7,7 +7,7 @@ cd "$(dirname "$0")/.."
 top=$PWD
 work=$(mktemp -d)
 trap 'rm -rf "$work"' EXIT
-rt check lister layer reader >"$work/log" 2>&1 || { cat "$work/log"; exit 1; }
+quietly rt check lister layer reader
 cd "$work"
 done_tests=0
 

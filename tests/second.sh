@@ -12,11 +12,11 @@ need rustc rustc
 
 work=$(mktemp -d)
 trap 'rm -rf "$work"' EXIT
-rt staticlib vanc >"$work/log" 2>&1 || { cat "$work/log"; exit 1; }
+quietly rt staticlib vanc
 cc_for -std=c11 -O2 -Wall -Wextra -Werror -I include tests/second/answer.c target/staticlib/libvanc.a -o "$work/answer"
 rustc --edition 2021 -O -o "$work/second" tests/second/main.rs
 rustc --edition 2021 -O --test -o "$work/figures" tests/second/main.rs
-"$work/figures" --quiet >"$work/log" 2>&1 || { cat "$work/log"; exit 1; }
+quietly "$work/figures"
 
 answer=("$work/answer")
 [ "$(uname -m)" = x86_64 ] || answer=(qemu-x86_64 -L /usr/x86_64-linux-gnu "$work/answer")
