@@ -65,17 +65,19 @@ fn line_fault(last: Line, h0: u8, h1: u8) -> bool
     last.0 < line.0
 }
 
-// "Summing bytes: the low eight bits agree", and a stored CS byte has no others. Reduced after every byte.
+// "Summing bytes: the low eight bits agree", and a stored CS byte has no others. From DID to the last user byte there are 258 bytes at
+// most, which come to 65,790: more than a u16 holds. The whole sum is reduced once.
 fn sum_of(s: &[u8]) -> u8
+    requires { ⌜ length (now s) ≤ 258 ⌝ }
     ensures { λ r. ⌜ r ≡ sum (now (s .entry)) % 256 ⌝ }
 {
-    let mut sum: u16 = 0;
+    let mut sum: u32 = 0;
     let mut i = 0;
     while i < s.len() {
-        sum = (sum + s[i] as u16) % 256;
+        sum += s[i] as u32;
         i += 1;
     }
-    sum as u8
+    (sum % 256) as u8
 }
 
 // "15 | stored CS byte is not the sum's low byte", then 16, of bytes from header byte 0 to CS; 0 for neither.

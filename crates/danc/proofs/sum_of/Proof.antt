@@ -1,5 +1,6 @@
--- `danc::sum_of` meets its contract. The loop's invariant: the sum so far and that of the bytes ahead are, modulo 256, the whole's.
-use Prim.Native.Nat.{ℕ, _+_, _-_, _%_, _<_}
+-- `danc::sum_of` meets its contract. The loop's invariant: the sum so far is at most 255 for each byte, and with that of the bytes ahead
+-- it is the whole's.
+use Prim.Native.Nat.{ℕ, _+_, _-_, _*_, _≤_, _<_}
 use mathlib.Core.Path.{_≡_}
 use mathlib.Core.List.{List}
 use native.Mathlib.Omega.{arith}
@@ -12,14 +13,13 @@ use Rattle.danc.proofs.sum_of.Statement.{statement}
 use Rattle.danc.proofs.sum_of.Tie as tie
 
 -- the byte at i is added
-turn : (s : List ℕ) (i n : ℕ) → i < length s → (n + total (drop i s)) % 256 ≡ total s % 256
-    → ((n + getD s i 0) % 256 + total (drop (i + 1) s)) % 256 ≡ total s % 256
+turn : (s : List ℕ) (i n : ℕ) → i < length s → n + total (drop i s) ≡ total s → n + getD s i 0 + total (drop (i + 1) s) ≡ total s
 turn s i n h e =
-    let f : (n + (getD s i 0 + total (drop (i + 1) s))) % 256 ≡ total s % 256 = rw (add-one i) (rw (drop-cons s i 0 h) at e) in
+    let f : n + (getD s i 0 + total (drop (i + 1) s)) ≡ total s = rw (add-one i) (rw (drop-cons s i 0 h) at e) in
     omega arith
 
 abbrev Inv-loop : tie.InvT-loop
-Inv-loop s sum₀ i₀ sum i = (sum < 256) × ((sum + total (drop i s)) % 256 ≡ total s % 256)
+Inv-loop s sum₀ i₀ sum i = (sum ≤ 255 * i) × (sum + total (drop i s) ≡ total s)
 
 abbrev μ-loop : tie.MeasureT-loop
 μ-loop s sum₀ i₀ sum i = length s - i
@@ -43,7 +43,7 @@ loop-less : tie.Need-loop-less Inv-loop μ-loop
 loop-less c = search needs
 
 loop-again : tie.Need-loop-again Inv-loop μ-loop
-loop-again c = (omega arith, turn _ _ _ (c .before .loop-test .taken) (c .before .before .loop .inv .1))
+loop-again c = (omega (arith, c .shared-slice-known .given (c .before .before .loop .i)), turn _ _ _ (c .before .loop-test .taken) (c .before .before .loop .inv .1))
 
 cast-result : tie.Need-cast-result Inv-loop μ-loop
 cast-result c = search needs
