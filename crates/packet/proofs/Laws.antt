@@ -1,17 +1,17 @@
 -- What the proofs of the functions rest on.
 --
--- In order: the parity of a byte; a pass over words; the parts of the sum that CS holds.
+-- In order: the parity of a byte; a pass over words; a part of them; the parts of the sum that CS holds.
 -- Assumes nothing.
 use Prim.Native.Nat.{ℕ, zero, suc, _+_, _-_, _*_, _/_, _%_, _≤_, _<_}
-use mathlib.Core.Path.{_≡_, refl}
-use mathlib.Core.Bool.{Bool, true, false, _&&_}
+use mathlib.Core.Path.{_≡_, refl, ap, sym, _∙_}
+use mathlib.Core.Bool.{Bool, true, false, _&&_, and-assoc}
 use mathlib.Core.List.{List, [], _∷_, _++_}
 use native.Mathlib.Omega.{arith}
 use native.Mathlib.Nat.{add-comm}
 use native.Mathlib.Numerals.{add-one}
 use lib.Bits.{bitXor}
 use lib.Dec.{eqb}
-use lib.ListN.{length, getD, take, drop, drop-of-length-le}
+use lib.ListN.{length, getD, take, drop, drop-of-length-le, take-append-drop}
 use lib.Seq.{drop-cons, take-add, drop-drop}
 use borrow.Author.Tests.{eqb-true}
 use Rattle.rules.specs.Packet.{parity, word, sum9, check}
@@ -60,20 +60,41 @@ sum9-next i ws h = rw (add-one i, drop-cons ws i 0 h)
 pub sum9-end : (i : ℕ) (ws : List ℕ) → length ws ≤ i → sum9 (drop i ws) ≡ 0
 sum9-end i ws h = rw (drop-of-length-le ws h)
 
--- ---- the parts of the sum that CS holds
+-- ---- a part of the words: n of them from `at` on, and those behind
 
 sum9-append : (vs ws : List ℕ) → sum9 (vs ++ ws) ≡ sum9 vs + sum9 ws
 sum9-append [] ws = omega arith
 sum9-append (v ∷ vs) ws = omega (arith, sum9-append vs ws)
 
+words-append : (vs ws : List ℕ) → areWords (vs ++ ws) ≡ (areWords vs && areWords ws)
+words-append [] ws = refl
+words-append (v ∷ vs) ws = rw (words-append vs ws) (sym (and-assoc (isWord v) (areWords vs) (areWords ws)))
+
+part-joined : (n at : ℕ) (ws : List ℕ) → take n (drop at ws) ++ drop (at + n) ws ≡ drop at ws
+part-joined n at ws = rw (← drop-drop n at ws) (take-append-drop n (drop at ws))
+
+pub words-part : (ok : Bool) (n at : ℕ) (ws : List ℕ)
+    → ((ok && areWords (take n (drop at ws))) && areWords (drop (at + n) ws)) ≡ (ok && areWords (drop at ws))
+words-part true n at ws = sym (words-append (take n (drop at ws)) (drop (at + n) ws)) ∙ ap areWords (part-joined n at ws)
+words-part false n at ws = refl
+
+pub sum9-part : (n at : ℕ) (ws : List ℕ) → sum9 (take n (drop at ws)) + sum9 (drop (at + n) ws) ≡ sum9 (drop at ws)
+sum9-part n at ws = sym (sum9-append (take n (drop at ws)) (drop (at + n) ws)) ∙ ap sum9 (part-joined n at ws)
+
+-- 258 × 511 = 131,838 for the words of a packet
+pub sum9-most : (n : ℕ) (ws : List ℕ) → sum9 (take n ws) ≤ 511 * n
+sum9-most zero ws = omega arith
+sum9-most (suc n) [] = omega arith
+sum9-most (suc n) (w ∷ ws) = omega (arith, sum9-most n ws)
+
+-- ---- the parts of the sum that CS holds
+
 -- the words that CS is over: DID, SDID and DC, and then the user words
 pub sum9-parts : (d : ℕ) (s : List ℕ) → sum9 (take (d + 3) (drop 3 s)) ≡ sum9 (take 3 (drop 3 s)) + sum9 (take d (drop 6 s))
 sum9-parts d s = rw (add-comm d 3, take-add 3 d (drop 3 s), drop-drop 3 3 s) (sum9-append (take 3 (drop 3 s)) (take d (drop 6 s)))
 
--- CS from the sums of the two parts, each reduced
-pub check-parts : (d h u : ℕ) (s : List ℕ) → h ≡ sum9 (take 3 (drop 3 s)) % 512 → u ≡ sum9 (take d (drop 6 s)) % 512
+-- CS from the whole sums of the two parts
+pub check-parts : (d h u : ℕ) (s : List ℕ) → h ≡ sum9 (take 3 (drop 3 s)) → u ≡ sum9 (take d (drop 6 s))
     → check (take (d + 3) (drop 3 s)) ≡ (h + u) % 512 + 512 * (1 - (h + u) % 512 / 256)
 unfolding check
-check-parts d h u s e f =
-    let g : sum9 (take (d + 3) (drop 3 s)) % 512 ≡ (h + u) % 512 = omega (arith, sum9-parts d s) in
-    rw g
+check-parts d h u s e f = rw (e, f, sum9-parts d s)

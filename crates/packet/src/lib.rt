@@ -1,10 +1,11 @@
 // The ten-bit words of a packet (document 01, "The packet"; SMPTE 291): the word of a byte, CS, and the tests 7 to 10.
 // What each function gives is a definition of the crate rules.
 ghost use mathlib.Core.Path.{_≡_};
-ghost use Prim.Native.Nat.{_+_, _-_, _*_, _/_, _<_};
+ghost use Prim.Native.Nat.{_+_, _-_, _*_, _/_, _%_, _≤_, _<_};
+ghost use lib.ListN.{length};
 ghost use Rattle.rules.specs.Packet.{word, check};
 ghost use Rattle.rules.specs.Laying.{wordsFault};
-ghost use Rattle.packet.specs.Run.{runOf};
+ghost use Rattle.packet.specs.Run.{passOf, runOf};
 
 // Bit 8 makes the count of ones even, and bit 9 is its inverse (SMPTE 291).
 // The eight bits are folded onto one, without a table or a branch, since this is done for every word.
@@ -25,27 +26,63 @@ pub fn word_of(b: u8) -> u16
     with_parity(b as u16)
 }
 
-// What one pass over some words finds: whether each is the word of its low byte, and the sum of their low nine bits.
+// What CS sums of a word: "the low nine bits" (document 01).
+fn low_nine(w: u16) -> u32
+    ensures { λ r. ⌜ r ≡ w % 512 ⌝ }
+{
+    (w % 512) as u32
+}
+
+// CS sums the words from DID to the last user word: 258 at most.
+const MOST: usize = 258;
+
+// What one pass over some words finds: whether each is the word of its low byte, and the whole sum of their low nine bits.
+struct Pass {
+    words: bool,
+    sum: u32,
+}
+
+// A wrong word does not end the loop, so that it has no branch. The sum is 258 × 511 = 131,838 at most.
+fn pass_of(ws: &[u16]) -> Pass
+    requires { ⌜ length (now ws) ≤ 258 ⌝ }
+    ensures { λ r. ⌜ r ≡ passOf (now (ws .entry)) ⌝ }
+{
+    let mut i = 0;
+    let mut ok = true;
+    let mut sum: u32 = 0;
+    while i < ws.len() {
+        let w = ws[i];
+        ok = ok & (w == with_parity(w % 256));
+        sum += low_nine(w);
+        i += 1;
+    }
+    Pass { words: ok, sum }
+}
+
+// What passes over some words find together, with the sum "modulo 512" (document 01).
 pub struct Run {
     pub words: bool,
     pub sum: u16,
 }
 
-// A wrong word does not end the loop, so that it has no branch.
-// The sum is reduced after every word, so that it fits whatever the number of words (document 01: "modulo 512").
+// A packet's words take one pass, and their sum is reduced once. A longer list takes more, so that no sum outgrows its type.
 pub fn run_of(ws: &[u16]) -> Run
     ensures { λ r. ⌜ r ≡ runOf (now (ws .entry)) ⌝ }
 {
-    let mut i = 0;
+    let mut at = 0;
     let mut ok = true;
-    let mut sum: u16 = 0;
-    while i < ws.len() {
-        let w = ws[i];
-        ok = ok & (w == with_parity(w % 256));
-        sum = (sum + w % 512) % 512;
-        i += 1;
+    let mut sum = 0;
+    while MOST < ws.len() - at {
+        let part = pass_of(&ws[at..at + MOST]);
+        ok = ok & part.words;
+        sum = (sum + part.sum) % 512;
+        at += MOST;
     }
-    Run { words: ok, sum }
+    let last = pass_of(&ws[at..]);
+    Run {
+        words: ok & last.words,
+        sum: ((sum + last.sum) % 512) as u16,
+    }
 }
 
 // Bit 9 of CS is the inverse of its bit 8, which is the sum's own and no parity (document 01, "Errors that look right").
@@ -64,7 +101,7 @@ pub fn check_of(ws: &[u16]) -> u16
 }
 
 // The number of the first fault of the packet that the words begin with, 0 for none, in document 01's order.
-// The sums of the two runs are added for CS, so that no word is summed twice.
+// The whole sums of the two passes are added for CS, so that no word is summed twice.
 pub fn fault(ws: &[u16]) -> u64
     ensures { λ r. ⌜ r ≡ wordsFault (now (ws .entry)) ⌝ }
 {
@@ -72,18 +109,18 @@ pub fn fault(ws: &[u16]) -> u64
         return 7;
     }
     let end = (ws[5] % 256) as usize + 6;
-    let head = run_of(&ws[3..6]);
+    let head = pass_of(&ws[3..6]);
     if !head.words {
         return 8;
     }
     if ws.len() <= end {
         return 9;
     }
-    let user = run_of(&ws[6..end]);
+    let user = pass_of(&ws[6..end]);
     if !user.words {
         return 8;
     }
-    if ws[end] != check_word((head.sum + user.sum) % 512) {
+    if ws[end] != check_word(((head.sum + user.sum) % 512) as u16) {
         return 10;
     }
     0

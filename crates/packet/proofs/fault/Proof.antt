@@ -12,9 +12,9 @@ use borrow.Author.Needs.{needs}
 use borrow.Author.Tests.{lt-ltb, le-ltb, eq-eqb, ne-eqb, not-true, not-false}
 use Rattle.rules.specs.Packet.{sum9, check}
 use Rattle.rules.specs.Laying.{areWords, dcIn, wordsFault}
-use Rattle.packet.specs.Run.{runOf}
-use Rattle.packet.specs.declared.Run.{Run}
-use Rattle.packet.proofs.Laws.{check-parts}
+use Rattle.packet.specs.Run.{passOf}
+use Rattle.packet.specs.declared.Pass.{Pass}
+use Rattle.packet.proofs.Laws.{sum9-most, check-parts}
 use Rattle.packet.proofs.fault.Statement.{statement}
 use Rattle.packet.proofs.fault.Tie as tie
 
@@ -37,13 +37,13 @@ headTests s = cond (not (areWords (take 3 (drop 3 s)))) 8 (sizeTests s)
 abbrev ws-flag : tie.Else4 → List ℕ
 ws-flag c = c .before .before .before .before .before .before .before .before .args .ws .now
 
-abbrev ws-head : tie.After-run-of → List ℕ
+abbrev ws-head : tie.After-pass-of → List ℕ
 ws-head c = ws-flag (c .before .before .before)
 
 abbrev ws-size : tie.Else6 → List ℕ
 ws-size c = ws-head (c .before .before .before)
 
-abbrev ws-user : tie.After-run-of2 → List ℕ
+abbrev ws-user : tie.After-pass-of2 → List ℕ
 ws-user c = ws-size (c .before .before)
 
 abbrev ws-check : tie.After-check-word → List ℕ
@@ -64,11 +64,11 @@ past-flag c =
 
 -- ---- DID, SDID and DC
 
-head-words : (c : tie.After-run-of) → c .run-of .result .words ≡ areWords (take 3 (drop 3 (ws-head c)))
-head-words c = ap (λ (r : Run). r .words) (c .run-of .ensures)
+head-words : (c : tie.After-pass-of) → c .pass-of .result .words ≡ areWords (take 3 (drop 3 (ws-head c)))
+head-words c = ap (λ (r : Pass). r .words) (c .pass-of .ensures)
 
-head-sum : (c : tie.After-run-of) → c .run-of .result .sum ≡ sum9 (take 3 (drop 3 (ws-head c))) % 512
-head-sum c = ap (λ (r : Run). r .sum) (c .run-of .ensures)
+head-sum : (c : tie.After-pass-of) → c .pass-of .result .sum ≡ sum9 (take 3 (drop 3 (ws-head c)))
+head-sum c = ap (λ (r : Pass). r .sum) (c .pass-of .ensures)
 
 good-head : (c : tie.Else5) → not (areWords (take 3 (drop 3 (ws-head (c .before .before))))) ≡ false
 good-head c = search (head-words (c .before .before))
@@ -89,14 +89,14 @@ past-size c = past-head (c .before) ∙ rw (le-ltb (length (ws-size c)) (dcIn (w
 six : (d : ℕ) → d + 6 - 6 ≡ d
 six d = omega arith
 
-user-run : (c : tie.After-run-of2) → c .run-of2 .result ≡ runOf (take (dcIn (ws-user c)) (drop 6 (ws-user c)))
-user-run c = c .run-of2 .ensures ∙ ap (λ (n : ℕ). runOf (take n (drop 6 (ws-user c)))) (six (dcIn (ws-user c)))
+user-pass : (c : tie.After-pass-of2) → c .pass-of2 .result ≡ passOf (take (dcIn (ws-user c)) (drop 6 (ws-user c)))
+user-pass c = c .pass-of2 .ensures ∙ ap (λ (n : ℕ). passOf (take n (drop 6 (ws-user c)))) (six (dcIn (ws-user c)))
 
-user-words : (c : tie.After-run-of2) → c .run-of2 .result .words ≡ areWords (take (dcIn (ws-user c)) (drop 6 (ws-user c)))
-user-words c = ap (λ (r : Run). r .words) (user-run c)
+user-words : (c : tie.After-pass-of2) → c .pass-of2 .result .words ≡ areWords (take (dcIn (ws-user c)) (drop 6 (ws-user c)))
+user-words c = ap (λ (r : Pass). r .words) (user-pass c)
 
-user-sum : (c : tie.After-run-of2) → c .run-of2 .result .sum ≡ sum9 (take (dcIn (ws-user c)) (drop 6 (ws-user c))) % 512
-user-sum c = ap (λ (r : Run). r .sum) (user-run c)
+user-sum : (c : tie.After-pass-of2) → c .pass-of2 .result .sum ≡ sum9 (take (dcIn (ws-user c)) (drop 6 (ws-user c)))
+user-sum c = ap (λ (r : Pass). r .sum) (user-pass c)
 
 good-user : (c : tie.Else7) → not (areWords (take (dcIn (ws-user (c .before .before))) (drop 6 (ws-user (c .before .before))))) ≡ false
 good-user c = search (user-words (c .before .before))
@@ -148,17 +148,17 @@ cast-end c = search needs
 add-end : tie.Need-add-end
 add-end c = search needs
 
-sub-run-of : tie.Need-sub-run-of
-sub-run-of c = search needs
+sub-pass-of : tie.Need-sub-pass-of
+sub-pass-of c = search needs
 
-part-run-of-start : tie.Need-part-run-of-start
-part-run-of-start c = search needs
+part-pass-of-start : tie.Need-part-pass-of-start
+part-pass-of-start c = search needs
 
-part-run-of-end : tie.Need-part-run-of-end
-part-run-of-end c = search needs
+part-pass-of-end : tie.Need-part-pass-of-end
+part-pass-of-end c = search needs
 
-run-of-requires : tie.Need-run-of-requires
-run-of-requires c κs = search needs
+pass-of-requires : tie.Need-pass-of-requires
+pass-of-requires c κs = search needs
 
 returns-2 : tie.Need-returns-2
 returns-2 c = rw (past-flag (c .before .before .before .before .before), bad-head c)
@@ -166,17 +166,17 @@ returns-2 c = rw (past-flag (c .before .before .before .before .before), bad-hea
 returns-3 : tie.Need-returns-3
 returns-3 c = rw (past-head (c .before), lt-ltb (length (ws-head (c .before .before .before))) (dcIn (ws-head (c .before .before .before)) + 7) (omega arith))
 
-sub-run-of-2 : tie.Need-sub-run-of-2
-sub-run-of-2 c = search needs
+sub-pass-of-2 : tie.Need-sub-pass-of-2
+sub-pass-of-2 c = search needs
 
-part-run-of-start-2 : tie.Need-part-run-of-start-2
-part-run-of-start-2 c = search needs
+part-pass-of-start-2 : tie.Need-part-pass-of-start-2
+part-pass-of-start-2 c = search needs
 
-part-run-of-end-2 : tie.Need-part-run-of-end-2
-part-run-of-end-2 c = search needs
+part-pass-of-end-2 : tie.Need-part-pass-of-end-2
+part-pass-of-end-2 c = search needs
 
-run-of-requires-2 : tie.Need-run-of-requires-2
-run-of-requires-2 c κs = search needs
+pass-of-requires-2 : tie.Need-pass-of-requires-2
+pass-of-requires-2 c κs = search needs
 
 returns-4 : tie.Need-returns-4
 returns-4 c = rw (past-size (c .before .before .before .before), bad-user c)
@@ -188,7 +188,19 @@ shared-slice-read-if8 : tie.Need-shared-slice-read-if8
 shared-slice-read-if8 c = search needs
 
 add-check-word : tie.Need-add-check-word
-add-check-word c = omega (arith, head-sum (c .before .before .before .before .before .before .before .before .before .before), user-sum (c .before .before .before .before .before))
+add-check-word c =
+    let user = c .before .before .before .before .before in
+    let s = ws-user user in
+    omega (
+      arith,
+      head-sum (user .before .before .before .before .before),
+      user-sum user,
+      sum9-most 3 (drop 3 s),
+      sum9-most (dcIn s) (drop 6 s),
+    )
+
+cast-check-word : tie.Need-cast-check-word
+cast-check-word c = search needs
 
 check-word-requires : tie.Need-check-word-requires
 check-word-requires c κs = search needs
@@ -210,20 +222,21 @@ fault-spec =
     shared-slice-read-end
     cast-end
     add-end
-    sub-run-of
-    part-run-of-start
-    part-run-of-end
-    run-of-requires
+    sub-pass-of
+    part-pass-of-start
+    part-pass-of-end
+    pass-of-requires
     returns-2
     returns-3
-    sub-run-of-2
-    part-run-of-start-2
-    part-run-of-end-2
-    run-of-requires-2
+    sub-pass-of-2
+    part-pass-of-start-2
+    part-pass-of-end-2
+    pass-of-requires-2
     returns-4
     mul-if8
     shared-slice-read-if8
     add-check-word
+    cast-check-word
     check-word-requires
     returns-5
     returns-6)
