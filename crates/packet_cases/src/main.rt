@@ -199,7 +199,27 @@ fn say(text: &[u8], n: u64) {
     io::write_all(libc::STDOUT_FILENO, b"\n");
 }
 
+// CS of so many words 3FFh. Their low nine bits come to 511 for each, so to 512 less their number, modulo 512.
+fn say_check(ws: &[u16]) {
+    io::write_all(libc::STDOUT_FILENO, b"CS of words 3FFh, ");
+    io::print_decimal(libc::STDOUT_FILENO, ws.len() as u64);
+    say(b" of them: ", packet::check_of(ws) as u64);
+}
+
+// The most words that a packet sums, one less, and longer lists, which are summed in parts.
+fn check_long_lists() {
+    let ws = [0x3FFu16; 1000];
+    say_check(&ws[..0]);
+    say_check(&ws[..257]);
+    say_check(&ws[..258]);
+    say_check(&ws[..259]);
+    say_check(&ws[..516]);
+    say_check(&ws[..517]);
+    say_check(&ws);
+}
+
 fn main() {
+    check_long_lists();
     let fd = os::open_read(b"words291.txt");
     if fd < 0 {
         os::fail(b"words291.txt");
