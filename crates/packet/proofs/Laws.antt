@@ -1,6 +1,6 @@
 -- What the proofs of the functions rest on.
 --
--- In order: the parity of a byte; a pass over words; a part of them; the parts of the sum that CS holds.
+-- In order: the parity of a byte; a pass over words; a pass over a part of them; the parts of the sum that CS holds.
 -- Assumes nothing.
 use Prim.Native.Nat.{ℕ, zero, suc, _+_, _-_, _*_, _/_, _%_, _≤_, _<_}
 use mathlib.Core.Path.{_≡_, refl, ap, sym, _∙_}
@@ -17,6 +17,8 @@ use borrow.Author.Tests.{eqb-true}
 use Rattle.rules.specs.Packet.{parity, word, sum9, check}
 use Rattle.rules.specs.Laying.{isWord, areWords}
 use Rattle.rules.proofs.Basics.{both}
+use Rattle.packet.specs.Run.{passOf}
+use Rattle.packet.specs.declared.Pass.{Pass}
 
 -- ---- the parity of a byte
 
@@ -60,7 +62,7 @@ sum9-next i ws h = rw (add-one i, drop-cons ws i 0 h)
 pub sum9-end : (i : ℕ) (ws : List ℕ) → length ws ≤ i → sum9 (drop i ws) ≡ 0
 sum9-end i ws h = rw (drop-of-length-le ws h)
 
--- ---- a part of the words: n of them from `at` on, and those behind
+-- ---- a pass over a part: what it finds of the n words from `at` on, joined with what those behind give
 
 sum9-append : (vs ws : List ℕ) → sum9 (vs ++ ws) ≡ sum9 vs + sum9 ws
 sum9-append [] ws = omega arith
@@ -73,13 +75,16 @@ words-append (v ∷ vs) ws = rw (words-append vs ws) (sym (and-assoc (isWord v) 
 part-joined : (n at : ℕ) (ws : List ℕ) → take n (drop at ws) ++ drop (at + n) ws ≡ drop at ws
 part-joined n at ws = rw (← drop-drop n at ws) (take-append-drop n (drop at ws))
 
-pub words-part : (ok : Bool) (n at : ℕ) (ws : List ℕ)
-    → ((ok && areWords (take n (drop at ws))) && areWords (drop (at + n) ws)) ≡ (ok && areWords (drop at ws))
-words-part true n at ws = sym (words-append (take n (drop at ws)) (drop (at + n) ws)) ∙ ap areWords (part-joined n at ws)
-words-part false n at ws = refl
+pub words-part : (ok : Bool) (n at m : ℕ) (ws : List ℕ) (r : Pass) → r ≡ passOf (take n (drop at ws)) → at + n ≡ m
+    → ((ok && r .words) && areWords (drop m ws)) ≡ (ok && areWords (drop at ws))
+words-part true n at m ws r e f =
+    rw (e, ← f) (sym (words-append (take n (drop at ws)) (drop (at + n) ws)) ∙ ap areWords (part-joined n at ws))
+words-part false n at m ws r e f = refl
 
-pub sum9-part : (n at : ℕ) (ws : List ℕ) → sum9 (take n (drop at ws)) + sum9 (drop (at + n) ws) ≡ sum9 (drop at ws)
-sum9-part n at ws = sym (sum9-append (take n (drop at ws)) (drop (at + n) ws)) ∙ ap sum9 (part-joined n at ws)
+pub sum9-part : (n at m : ℕ) (ws : List ℕ) (r : Pass) → r ≡ passOf (take n (drop at ws)) → at + n ≡ m
+    → r .sum + sum9 (drop m ws) ≡ sum9 (drop at ws)
+sum9-part n at m ws r e f =
+    rw (e, ← f) (sym (sum9-append (take n (drop at ws)) (drop (at + n) ws)) ∙ ap sum9 (part-joined n at ws))
 
 -- 258 × 511 = 131,838 for the words of a packet
 pub sum9-most : (n : ℕ) (ws : List ℕ) → sum9 (take n ws) ≤ 511 * n
@@ -90,7 +95,7 @@ sum9-most (suc n) (w ∷ ws) = omega (arith, sum9-most n ws)
 -- ---- the parts of the sum that CS holds
 
 -- the words that CS is over: DID, SDID and DC, and then the user words
-pub sum9-parts : (d : ℕ) (s : List ℕ) → sum9 (take (d + 3) (drop 3 s)) ≡ sum9 (take 3 (drop 3 s)) + sum9 (take d (drop 6 s))
+sum9-parts : (d : ℕ) (s : List ℕ) → sum9 (take (d + 3) (drop 3 s)) ≡ sum9 (take 3 (drop 3 s)) + sum9 (take d (drop 6 s))
 sum9-parts d s = rw (add-comm d 3, take-add 3 d (drop 3 s), drop-drop 3 3 s) (sum9-append (take 3 (drop 3 s)) (take d (drop 6 s)))
 
 -- CS from the whole sums of the two parts

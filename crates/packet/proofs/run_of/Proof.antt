@@ -23,20 +23,9 @@ Inv-loop ws at₀ ok₀ sum₀ at ok sum =
 abbrev μ-loop : tie.MeasureT-loop
 μ-loop ws at₀ ok₀ sum₀ at ok sum = length ws - at
 
--- ---- what a pass over n words from `at` on finds, joined with what those from m on give
-
-joined-words : (ok : Bool) (n at m : ℕ) (ws : List ℕ) (r : Pass) → r ≡ passOf (take n (drop at ws)) → at + n ≡ m
-    → ((ok && r .words) && areWords (drop m ws)) ≡ (ok && areWords (drop at ws))
-joined-words ok n at m ws r e f = rw (e, ← f) (words-part ok n at ws)
-
-joined-sum : (n at m : ℕ) (ws : List ℕ) (r : Pass) → r ≡ passOf (take n (drop at ws)) → at + n ≡ m
-    → r .sum + sum9 (drop m ws) ≡ sum9 (drop at ws)
-joined-sum n at m ws r e f = rw (e, ← f) (sum9-part n at ws)
-
+-- a pass over n words finds 511 for each at most
 most-sum : (n : ℕ) (ws : List ℕ) (r : Pass) → r ≡ passOf (take n ws) → r .sum ≤ 511 * n
 most-sum n ws r e = rw e (sum9-most n ws)
-
--- ---- the needs
 
 loop-holds : tie.Need-loop-holds Inv-loop μ-loop
 loop-holds c = (search needs, search needs, refl, omega arith)
@@ -82,8 +71,8 @@ loop-again c =
     let f : d .loop .at + (d .loop .at + 258 - d .loop .at) ≡ d .loop .at + 258 = omega arith in (
       search needs,
       search needs,
-      joined-words (d .loop .ok) _ _ _ _ _ (p .pass-of .ensures) f ∙ d .loop .inv .2,
-      omega (arith, joined-sum _ _ _ _ _ (p .pass-of .ensures) f),
+      words-part (d .loop .ok) _ _ _ _ _ (p .pass-of .ensures) f ∙ d .loop .inv .2,
+      omega (arith, sum9-part _ _ _ _ _ (p .pass-of .ensures) f),
     )
 
 mul-pass-of-2 : tie.Need-mul-pass-of-2 Inv-loop μ-loop
@@ -120,9 +109,9 @@ returns c =
     let ws = d .before .before .args .ws .now in
     let end : at + (length ws - at) ≡ length ws = omega arith in
     let words : (d .loop .ok && p .pass-of2 .result .words) ≡ areWords ws =
-    sym (words-end _ (length ws) ws (le-refl (length ws))) ∙ joined-words (d .loop .ok) _ at _ ws _ (p .pass-of2 .ensures) end ∙ d .loop .inv .2 in
+    sym (words-end _ (length ws) ws (le-refl (length ws))) ∙ words-part (d .loop .ok) _ at _ ws _ (p .pass-of2 .ensures) end ∙ d .loop .inv .2 in
     let sum : (d .loop .sum + p .pass-of2 .result .sum) % 512 ≡ sum9 ws % 512 =
-    omega (arith, joined-sum _ at _ ws _ (p .pass-of2 .ensures) end, sum9-end (length ws) ws (le-refl (length ws))) in
+    omega (arith, sum9-part _ at _ ws _ (p .pass-of2 .ensures) end, sum9-end (length ws) ws (le-refl (length ws))) in
     ap₂ (λ (w : Bool) (n : ℕ). record { words = w; sum = n }) words sum
 
 pub run-of-spec : {M : Type 1} → statement M
