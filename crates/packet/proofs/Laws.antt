@@ -1,23 +1,23 @@
 -- What the proofs of the functions rest on.
 --
--- In order: the parity of a byte; a pass over words; a pass over a part of them; the parts of the sum that CS holds.
+-- In order: the parity of a byte; the table of words; a pass over words; a pass over a part of them; the parts of the sum that CS holds.
 -- Assumes nothing.
 use Prim.Native.Nat.{ℕ, zero, suc, _+_, _-_, _*_, _/_, _%_, _≤_, _<_}
 use mathlib.Core.Path.{_≡_, refl, ap, sym, _∙_}
 use mathlib.Core.Bool.{Bool, true, false, _&&_, and-assoc}
-use mathlib.Core.List.{List, [], _∷_, _++_}
+use mathlib.Core.List.{List, [], _∷_, _++_, append-nil}
 use native.Mathlib.Omega.{arith}
-use native.Mathlib.Nat.{add-comm}
+use native.Mathlib.Nat.{add-comm, add-zero, zero-add}
 use native.Mathlib.Numerals.{add-one}
 use lib.Bits.{bitXor}
 use lib.Dec.{eqb}
-use lib.ListN.{length, getD, take, drop, drop-of-length-le, take-append-drop}
-use lib.Seq.{drop-cons, take-add, drop-drop}
-use borrow.Author.Tests.{eqb-true}
+use lib.ListN.{length, getD, set, take, drop, drop-of-length-le, take-append-drop}
+use lib.Seq.{drop-cons, take-add, drop-drop, take-all, paste-suc}
+use borrow.Author.Tests.{eq-eqb, ne-eqb, eqb-true}
 use Rattle.rules.specs.Packet.{parity, word, sum9, check}
 use Rattle.rules.specs.Laying.{isWord, areWords}
 use Rattle.rules.proofs.Basics.{both}
-use Rattle.packet.specs.Run.{passOf}
+use Rattle.packet.specs.Run.{passOf, wordsFrom, wordTable}
 use Rattle.packet.specs.declared.Pass.{Pass}
 
 -- ---- the parity of a byte
@@ -44,6 +44,40 @@ pub folded-parity : (b : ℕ) → b < 256 → folded b ≡ parity b
 unfolding parity
 folded-parity b h = eqb-true (folded b) (parity b) (every-at (λ b. eqb (folded b) (parity b)) 256 b refl h)
 
+-- ---- the table of words
+
+from-at : (n b i : ℕ) → i < n → getD (wordsFrom b n) i 0 ≡ word (b + i)
+from-at zero b i h = absurd (omega arith)
+from-at (suc n) b zero h = rw (add-zero b)
+from-at (suc n) b (suc i) h =
+    let e : suc b + i ≡ b + suc i = omega arith in
+    from-at n (suc b) i (omega arith) ∙ ap word e
+
+pub table-at : (b : ℕ) → b < 256 → getD wordTable b 0 ≡ word b
+unfolding wordTable
+table-at b h = from-at 256 0 b h ∙ ap word (zero-add b)
+
+pub table-length : length wordTable ≡ 256
+unfolding wordTable
+table-length = refl
+
+-- a turn of the loop that fills it
+pub table-turn : (z t : List ℕ) (b w : ℕ) → b < 256 → length z ≡ 256 → w ≡ word b → t ≡ take b wordTable ++ drop b z
+    → set t b w ≡ take (b + 1) wordTable ++ drop (b + 1) z
+table-turn z t b w h l e v =
+    let p = paste-suc z 0 wordTable b 0 (omega arith) (omega (arith, table-length)) in
+    rw (v, e, ← table-at b h, add-one b) (rw (zero-add b, zero-add (suc b)) at p)
+
+-- it is full
+pub table-end : (z t : List ℕ) (b : ℕ) → b ≡ 256 → length z ≡ 256 → t ≡ take b wordTable ++ drop b z → t ≡ wordTable
+table-end z t b e l v = v ∙ rw (drop-of-length-le z h, take-all b wordTable k) (append-nil wordTable)
+  where
+    h : length z ≤ b
+    h = omega arith
+
+    k : length wordTable ≤ b
+    k = omega (arith, table-length)
+
 -- ---- a pass over words: what the word at i adds, and the end
 
 pub words-next : (ok : Bool) (i w : ℕ) (ws : List ℕ) → i < length ws → w ≡ word (getD ws i 0 % 256)
@@ -55,6 +89,21 @@ words-next false i w ws h e = refl
 pub words-end : (ok : Bool) (i : ℕ) (ws : List ℕ) → length ws ≤ i → (ok && areWords (drop i ws)) ≡ ok
 words-end true i ws h = rw (drop-of-length-le ws h)
 words-end false i ws h = refl
+
+-- the same by the table, where the word's low byte is b
+module _ (t : List ℕ) (i b : ℕ) (ws : List ℕ) (h : i < length ws) (e : b ≡ getD ws i 0 % 256) (right : t ≡ wordTable) where
+  table-word : getD t b 0 ≡ word (getD ws i 0 % 256)
+  table-word = rw (right, e) (table-at (getD ws i 0 % 256) (omega arith))
+
+  pub looked-right : getD ws i 0 ≡ getD t b 0 → areWords (drop (i + 1) ws) ≡ areWords (drop i ws)
+  looked-right q =
+      ap (λ (b : Bool). b && areWords (drop (i + 1) ws)) (sym (eq-eqb (getD ws i 0) (getD t b 0) q))
+      ∙ words-next true i (getD t b 0) ws h table-word
+
+  pub looked-wrong : (getD ws i 0 ≡ getD t b 0 → ⊥) → areWords (drop i ws) ≡ false
+  looked-wrong q =
+      sym (words-next true i (getD t b 0) ws h table-word)
+      ∙ ap (λ (b : Bool). b && areWords (drop (i + 1) ws)) (ne-eqb (getD ws i 0) (getD t b 0) q)
 
 pub sum9-next : (i : ℕ) (ws : List ℕ) → i < length ws → sum9 (drop i ws) ≡ getD ws i 0 % 512 + sum9 (drop (i + 1) ws)
 sum9-next i ws h = rw (add-one i, drop-cons ws i 0 h)
@@ -85,6 +134,10 @@ pub sum9-part : (n at m : ℕ) (ws : List ℕ) (r : Pass) → r ≡ passOf (take
     → r .sum + sum9 (drop m ws) ≡ sum9 (drop at ws)
 sum9-part n at m ws r e f =
     rw (e, ← f) (sym (sum9-append (take n (drop at ws)) (drop (at + n) ws)) ∙ ap sum9 (part-joined n at ws))
+
+pub sum9-within : (ws : List ℕ) → sum9 ws ≤ 511 * length ws
+sum9-within [] = omega arith
+sum9-within (w ∷ ws) = omega (arith, sum9-within ws)
 
 -- 258 × 511 = 131,838 for the words of a packet
 pub sum9-most : (n : ℕ) (ws : List ℕ) → sum9 (take n ws) ≤ 511 * n

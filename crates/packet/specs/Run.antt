@@ -1,8 +1,11 @@
 -- What a pass over the words of a packet finds, in the terms of the rules.
 -- Assumes nothing.
-use Prim.Native.Nat.{ℕ, _%_}
-use mathlib.Core.List.{List}
-use Rattle.rules.specs.Packet.{sum9}
+use Prim.Native.Nat.{ℕ, zero, suc, _*_, _%_, _≤_}
+use mathlib.Core.Path.{_≡_}
+use mathlib.Core.Bool.{true}
+use mathlib.Core.List.{List, [], _∷_}
+use lib.ListN.{length}
+use Rattle.rules.specs.Packet.{word, sum9}
 use Rattle.rules.specs.Laying.{areWords}
 use Rattle.packet.specs.declared.Pass.{Pass}
 use Rattle.packet.specs.declared.Run.{Run}
@@ -14,3 +17,18 @@ passOf ws = record { words = areWords ws; sum = sum9 ws }
 -- whether each is the word of its low byte, and the sum of their low nine bits modulo 512
 abbrev pub runOf : List ℕ → Run
 runOf ws = record { words = areWords ws; sum = sum9 ws % 512 }
+
+-- the words of n bytes from b on
+abbrev pub wordsFrom : ℕ → ℕ → List ℕ
+wordsFrom b zero = []
+wordsFrom b (suc n) = word b ∷ wordsFrom (suc b) n
+
+-- the words of all bytes
+unfoldable pub wordTable : List ℕ
+wordTable = wordsFrom 0 256
+
+-- what a pass by a table may say: with the right table, whether each is the word of its low byte; and if it says so, their sum
+pub record Passed (table ws : List ℕ) (r : Pass) : Type 0 where
+  pub words : table ≡ wordTable → r .words ≡ areWords ws
+  pub sum : r .words ≡ true → r .sum ≡ sum9 ws
+  pub most : r .sum ≤ 511 * length ws

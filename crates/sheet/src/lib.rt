@@ -77,11 +77,12 @@ fn standing(last: Line, ls: &[u16]) -> usize
 fn packets(system: u64, ws: &[u16]) -> Tested
     ensures { λ r. ⌜ r ≡ testedOf system (packetsOfWords (now (ws .entry))) ⌝ }
 {
+    let table = packet::words();
     let mut at = 0;
     let mut k: u64 = 0;
     let mut packs: u64 = 0;
     while at < ws.len() {
-        let f = packet::fault(&ws[at..]);
+        let f = packet::fault_by(&table, &ws[at..]);
         if f != 0 {
             return refusal(f, k);
         }

@@ -4,60 +4,73 @@ use Prim.Native.Nat.{ℕ, _+_, _-_, _%_, _≤_}
 use mathlib.Core.Path.{_≡_, _∙_}
 use mathlib.Core.List.{List}
 use native.Mathlib.Omega.{arith}
-use lib.ListN.{length, getD}
+use lib.ListN.{length, getD, take, drop}
 use borrow.Author.Needs.{needs}
-use Rattle.rules.specs.Laying.{packetsOfWords}
+use Rattle.rules.specs.Laying.{wordsFault, packetsOfWords}
 use Rattle.rules.specs.Lister.{testedOf}
 use Rattle.sheet.proofs.Laws.{wholeFrom, at-first, at-end, at-fault, all-there, at-next}
 use Rattle.sheet.proofs.packets.Statement.{statement}
 use Rattle.sheet.proofs.packets.Tie as tie
 
 abbrev Inv-loop : tie.InvT-loop
-Inv-loop system ws at₀ k₀ packs₀ at k packs =
+Inv-loop system ws table at₀ k₀ packs₀ at k packs =
     (at ≤ length ws) × (k ≤ at) × (packs ≤ at) × (wholeFrom system k at packs ws ≡ testedOf system (packetsOfWords ws))
 
 abbrev μ-loop : tie.MeasureT-loop
-μ-loop system ws at₀ k₀ packs₀ at k packs = length ws - at
+μ-loop system ws table at₀ k₀ packs₀ at k packs = length ws - at
+
+-- what the test of the packet here says, by the right table
+module _ (c : tie.After-fault-by Inv-loop μ-loop) where
+  abbrev given : List ℕ
+  given = c .before .before .before .before .before .before .before .args .ws .now
+
+  abbrev place : ℕ
+  place = c .before .before .before .before .loop .at
+
+  tested : c .fault-by .result ≡ wordsFault (take (length given - place) (drop place given))
+  tested = c .fault-by .ensures (c .before .before .before .before .before .words .ensures)
 
 -- a packet that passed its test has all its words
 module _ (c : tie.Else1 Inv-loop μ-loop) where
   abbrev ws : List ℕ
-  ws = c .before .before .before .before .before .before .args .ws .now
+  ws = given (c .before)
 
   abbrev at : ℕ
-  at = c .before .before .before .before .loop .at
+  at = place (c .before)
 
   there : at + (getD ws (at + 5) 0 % 256 + 7) ≤ length ws
-  there = all-there at ws (c .before .before .before .loop-test .taken) _ (c .before .fault .ensures) (c .if1 .left)
+  there = all-there at ws (c .before .before .before .before .loop-test .taken) _ (tested (c .before)) (c .if1 .left)
+
+words-requires : tie.Need-words-requires Inv-loop μ-loop
+words-requires c κs = search needs
 
 loop-holds : tie.Need-loop-holds Inv-loop μ-loop
 loop-holds c = (search needs, search needs, search needs, at-first _ _)
 
-mul-fault : tie.Need-mul-fault Inv-loop μ-loop
-mul-fault c = search needs
+mul-fault-by : tie.Need-mul-fault-by Inv-loop μ-loop
+mul-fault-by c = search needs
 
-sub-fault : tie.Need-sub-fault Inv-loop μ-loop
-sub-fault c = search needs
+sub-fault-by : tie.Need-sub-fault-by Inv-loop μ-loop
+sub-fault-by c = search needs
 
-part-fault-start : tie.Need-part-fault-start Inv-loop μ-loop
-part-fault-start c = search needs
+part-fault-by-start : tie.Need-part-fault-by-start Inv-loop μ-loop
+part-fault-by-start c = search needs
 
-part-fault-end : tie.Need-part-fault-end Inv-loop μ-loop
-part-fault-end c = search needs
+part-fault-by-end : tie.Need-part-fault-by-end Inv-loop μ-loop
+part-fault-by-end c = search needs
 
-fault-requires : tie.Need-fault-requires Inv-loop μ-loop
-fault-requires c κs = search needs
+fault-by-requires : tie.Need-fault-by-requires Inv-loop μ-loop
+fault-by-requires c κs = search needs
 
 refusal-requires : tie.Need-refusal-requires Inv-loop μ-loop
 refusal-requires c κs = search needs
 
 returns : tie.Need-returns Inv-loop μ-loop
 returns c =
-    let ws : List ℕ = c .before .before .before .before .before .before .before .args .ws .now in
-    let l = c .before .before .before .before .before .loop in
-    let i = c .before .before .before .before .loop-test .taken in
-    let f = c .before .before .fault .ensures in
-    let o = at-fault _ ws i _ f (c .before .if1 .taken) (c .before .before .before .before .before .before .before .args .system) _ (l .packs) in
+    let start = c .before .before .before .before .before .before .before .before .before in
+    let l = c .before .before .before .before .before .before .loop in
+    let i = c .before .before .before .before .before .loop-test .taken in
+    let o = at-fault _ (start .args .ws .now) i _ (tested (c .before .before)) (c .before .if1 .taken) (start .args .system) _ (l .packs) in
     c .refusal .ensures ∙ o ∙ l .inv .3
 
 add-wide : tie.Need-add-wide Inv-loop μ-loop
@@ -96,16 +109,16 @@ loop-less c = search needs
 loop-again : tie.Need-loop-again Inv-loop μ-loop
 loop-again c =
     let b : tie.Else1 Inv-loop μ-loop = c .before .before in
-    let l = b .before .before .before .before .loop in
-    let i = b .before .before .before .loop-test .taken in
-    let f = b .before .fault .ensures in
+    let l = b .before .before .before .before .before .loop in
+    let i = b .before .before .before .before .loop-test .taken in
+    let f = tested (b .before) in
     let d = c .wide .ensures .0 in
-    let o = at-next _ (ws b) i _ f (b .if1 .left) _ d (b .before .before .before .before .before .before .args .system) (l .k) (l .packs) in
+    let o = at-next _ (ws b) i _ f (b .if1 .left) _ d (b .before .before .before .before .before .before .before .before .args .system) (l .k) (l .packs) in
     let m = there b in
     (omega arith, omega arith, omega arith, o ∙ l .inv .3)
 
 returns-2 : tie.Need-returns-2 Inv-loop μ-loop
-returns-2 c = at-end _ _ _ _ (c .before .before .before .args .ws .now) (c .loop-test .left) ∙ c .before .loop .inv .3
+returns-2 c = at-end _ _ _ _ (c .before .before .before .before .args .ws .now) (c .loop-test .left) ∙ c .before .loop .inv .3
 
 pub packets-spec : {M : Type 1} → statement M
 packets-spec =
@@ -113,12 +126,13 @@ packets-spec =
     (tie.spec
     Inv-loop
     μ-loop
+    words-requires
     loop-holds
-    mul-fault
-    sub-fault
-    part-fault-start
-    part-fault-end
-    fault-requires
+    mul-fault-by
+    sub-fault-by
+    part-fault-by-start
+    part-fault-by-end
+    fault-by-requires
     refusal-requires
     returns
     add-wide

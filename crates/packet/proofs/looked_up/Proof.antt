@@ -1,0 +1,110 @@
+-- `packet::looked_up` meets its contract. The loop's invariant: with the right table, what the words from `at` on give is what all of
+-- them give, and the sum so far is that of the words before. The measure is the number of words left. Assumes nothing.
+use Prim.Native.Nat.{_+_, _-_, _*_, _≤_}
+use mathlib.Core.Path.{_≡_, refl, sym, _∙_}
+use mathlib.Core.Bool.{true}
+use native.Mathlib.Omega.{arith}
+use lib.ListN.{length, drop}
+use borrow.Author.Needs.{needs}
+use Rattle.rules.specs.Packet.{sum9}
+use Rattle.rules.specs.Laying.{areWords}
+use Rattle.rules.proofs.Basics.{never}
+use Rattle.packet.specs.Run.{wordTable}
+use Rattle.packet.proofs.Laws.{looked-right, looked-wrong, words-end, sum9-next, sum9-end}
+use Rattle.packet.proofs.looked_up.Statement.{statement}
+use Rattle.packet.proofs.looked_up.Tie as tie
+
+abbrev Inv-loop : tie.InvT-loop
+Inv-loop table ws at₀ total₀ at total =
+    (total ≤ 511 * at) × (at ≤ length ws) × (total + sum9 (drop at ws) ≡ sum9 ws) × (table ≡ wordTable → areWords (drop at ws) ≡ areWords ws)
+
+abbrev μ-loop : tie.MeasureT-loop
+μ-loop table ws at₀ total₀ at total = length ws - at
+
+loop-holds : tie.Need-loop-holds Inv-loop μ-loop
+loop-holds c = (omega arith, omega arith, omega arith, λ h. refl)
+
+mul-w : tie.Need-mul-w Inv-loop μ-loop
+mul-w c = search needs
+
+shared-slice-read-w : tie.Need-shared-slice-read-w Inv-loop μ-loop
+shared-slice-read-w c = search needs
+
+low-byte-requires : tie.Need-low-byte-requires Inv-loop μ-loop
+low-byte-requires c κs = search needs
+
+mul-if1 : tie.Need-mul-if1 Inv-loop μ-loop
+mul-if1 c = search needs
+
+element-copy-out-if1 : tie.Need-element-copy-out-if1 Inv-loop μ-loop
+element-copy-out-if1 c = search needs
+
+returns : tie.Need-returns Inv-loop μ-loop
+returns c =
+    let p = c .before .before in
+    let more = p .before .before .loop-test .taken in
+    let d = p .before .before .before in
+    let a = d .before .before .args in
+    record {
+      words = λ h.
+          sym (looked-wrong (a .table .now) (d .loop .at) _ (a .ws .now) more (p .low-byte .ensures) h (c .if1 .taken)) ∙ d .loop .inv .3 h;
+      sum = λ h. never (cc);
+      most = omega arith;
+    }
+
+low-nine-requires : tie.Need-low-nine-requires Inv-loop μ-loop
+low-nine-requires c κs = search needs
+
+add-total : tie.Need-add-total Inv-loop μ-loop
+add-total c = search needs
+
+add-at : tie.Need-add-at Inv-loop μ-loop
+add-at c = search needs
+
+loop-less : tie.Need-loop-less Inv-loop μ-loop
+loop-less c = search needs
+
+loop-again : tie.Need-loop-again Inv-loop μ-loop
+loop-again c =
+    let p = c .before .before .before in
+    let more = p .before .before .loop-test .taken in
+    let d = p .before .before .before in
+    let a = d .before .before .args in
+    let ws = a .ws .now in
+    let i = d .loop .at in (
+      omega arith,
+      omega arith,
+      omega (arith, sum9-next i ws more),
+      λ h. looked-right (a .table .now) i _ ws more (p .low-byte .ensures) h (c .before .if1 .left) ∙ d .loop .inv .3 h,
+    )
+
+returns-2 : tie.Need-returns-2 Inv-loop μ-loop
+returns-2 c =
+    let l = c .before .loop in
+    let ws = c .before .before .before .args .ws .now in
+    let z = sum9-end (l .at) ws (c .loop-test .left) in
+    record {
+      words = λ h. sym (words-end true (l .at) ws (c .loop-test .left)) ∙ l .inv .3 h;
+      sum = λ h. omega arith;
+      most = omega arith;
+    }
+
+pub looked-up-spec : {M : Type 1} → statement M
+looked-up-spec =
+    tie.close
+    (tie.spec
+    Inv-loop
+    μ-loop
+    loop-holds
+    mul-w
+    shared-slice-read-w
+    low-byte-requires
+    mul-if1
+    element-copy-out-if1
+    returns
+    low-nine-requires
+    add-total
+    add-at
+    loop-less
+    loop-again
+    returns-2)
