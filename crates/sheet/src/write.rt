@@ -3,8 +3,8 @@
 // so that a buffer without room for the sheet stays as it was.
 use frame::wide;
 ghost use mathlib.Core.Path.{_≡_};
-ghost use mathlib.Core.List.{map};
-ghost use Prim.Native.Nat.{_*_, _≤_, _<_};
+ghost use mathlib.Core.List.{List, map};
+ghost use Prim.Native.Nat.{ℕ, _*_, _≤_, _<_};
 ghost use lib.ListN.{length, drop};
 ghost use Rattle.rules.specs.Packet.{word, words};
 ghost use Rattle.rules.specs.Sheet.{locations, allWords, sheetOf};
@@ -72,31 +72,31 @@ fn write_coded(s: &[u8], out: &mut [u16])
     }
 }
 
-// "000h, 3FFh, 3FFh; DID; SDID or DBN; DC; DC user words; CS". CS is summed over the words just written: of the bytes' sum "the low
-// eight bits agree, bit 8 need not".
-fn write_words(s: &[u8], out: &mut [u16])
-    requires { ⌜ length (now s) ≡ sizeIn (now s) ⌝ }
-    requires { ⌜ length (now out) ≡ length (now s) ⌝ }
-    ensures { λ _. ⌜ now (out .exit) ≡ words (packetOfBytes (now (s .entry))) ⌝ }
+// "000h, 3FFh, 3FFh; DID; SDID or DBN; DC; DC user words; CS": where the words of a packet's bytes stand, the flag and CS are put.
+// CS is summed over the words: of the bytes' sum "the low eight bits agree, bit 8 need not".
+fn write_flag_and_cs(out: &mut [u16])
+    requires { ⌜ 7 ≤ length (now out) ⌝ }
+    ensures { λ _. ⌜ ((s : List ℕ) → length s ≡ sizeIn s → now (out .entry) ≡ map word s → now (out .exit) ≡ words (packetOfBytes s)) ⌝ }
 {
+    let end = out.len() - 1;
     out[0] = 0x000;
     out[1] = 0x3FF;
     out[2] = 0x3FF;
-    let end = s.len() - 1;
-    write_coded(&s[3..end], &mut out[3..end]);
     out[end] = packet::check_of(&out[3..end]);
 }
 
 // "W words: packets back to back". "A DANC packet has as many bytes as its VANC packet has words", so both stand at one place.
+// One pass over all bytes and then the flags and CS, since short runs of words are slower than one long one.
 fn write_packets(s: &[u8], out: &mut [u16])
     requires { ⌜ Whole (now s) ⌝ }
     requires { ⌜ length (now out) ≡ length (now s) ⌝ }
     ensures { λ _. ⌜ now (out .exit) ≡ allWords (packetsShown (now (s .entry))) ⌝ }
 {
+    write_coded(s, out);
     let mut at = 0;
     while at < s.len() {
         let end = at + (wide(s[at + 5]) + 7);
-        write_words(&s[at..end], &mut out[at..end]);
+        write_flag_and_cs(&mut out[at..end]);
         at = end;
     }
 }

@@ -1,6 +1,6 @@
 -- `packet::fault_by` meets its contract. With the right table each test that is passed leaves the later ones of `wordsFault`, and CS is over both runs (`check-parts`).
 -- Assumes nothing.
-use Prim.Native.Nat.{ℕ, _+_, _-_, _%_}
+use Prim.Native.Nat.{ℕ, _+_, _-_}
 use mathlib.Core.Path.{_≡_, sym, _∙_, subst}
 use mathlib.Core.Logic.{⊎-elim}
 use mathlib.Core.Bool.{true, false, cond, not}

@@ -3,15 +3,15 @@
 -- In order: a number, two numbers, a part more; three numbers, a part and a number; bytes as words; locations; the words of packets;
 -- the words of one packet; the sections; the sheet.
 -- Assumes nothing.
-use Prim.Native.Nat.{ℕ, suc, _+_, _-_, _*_, _≤_, _<_}
+use Prim.Native.Nat.{ℕ, zero, suc, _+_, _-_, _*_, _≤_, _<_}
 use mathlib.Core.Path.{_≡_, refl, sym, ap, ap₂, _∙_}
 use mathlib.Core.Bool.{false}
 use mathlib.Core.List.{List, [], _∷_, _++_, map, append-assoc, append-nil}
 use native.Mathlib.Omega.{arith}
 use native.Mathlib.Numerals.{add-one, add-three, add-seven}
 use lib.Dec.{leb}
-use lib.ListN.{length, getD, take, drop, set, length-append, length-drop, length-set, length-map, drop-of-length-le}
-use lib.Seq.{length-take-le, getD-take, getD-drop, drop-cons, take-suc-set, take-at, take-all, take-take, append-snoc}
+use lib.ListN.{length, getD, take, drop, set, length-append, length-drop, length-set, length-map, drop-of-length-le, take-append-drop}
+use lib.Seq.{length-take-le, getD-take, getD-drop, drop-cons, drop-drop, take-suc-set, take-at, drop-at, take-all, take-take, append-snoc}
 use borrow.Author.Tests.{lt-leb, le-leb}
 use Rattle.rules.specs.Packet.{Packet, body, word, check, coded, checkOf, words}
 use Rattle.rules.specs.Sheet.{locations, allWords, sheetOf}
@@ -53,6 +53,9 @@ module _ (out ys : List ℕ) (at end : ℕ) (h : at ≤ end) (k : end ≤ length
       let d = front-long in
       ap length (sym (append-assoc (take at out) ys after)) ∙ (omega arith)
 
+  part-behind : drop end (take at out ++ (ys ++ after)) ≡ after
+  part-behind = ap (drop end) (sym (append-assoc (take at out) ys after)) ∙ drop-at (take at out ++ ys) after end front-long
+
   part-more : (r : List ℕ) → take end (take at out ++ (ys ++ after)) ++ r ≡ take at out ++ (ys ++ r)
   part-more r =
       let e : take end (take at out ++ (ys ++ after)) ≡ take at out ++ ys =
@@ -70,6 +73,13 @@ threeOf out x y z = set (set (set out 0 x) 1 y) 2 z
 
 abbrev pub backOf : List ℕ → List ℕ → ℕ → List ℕ
 backOf three ys mid = take 3 three ++ (ys ++ drop (mid - 3) (drop 3 three))
+
+-- behind the three all is as it was
+three-tail : (out : List ℕ) (x y z : ℕ) → drop 3 (threeOf out x y z) ≡ drop 3 out
+three-tail [] x y z = refl
+three-tail (a ∷ []) x y z = refl
+three-tail (a ∷ b ∷ []) x y z = refl
+three-tail (a ∷ b ∷ c ∷ out) x y z = refl
 
 module _ (out ys : List ℕ) (x y z mid v : ℕ) (h : 3 ≤ mid) (k : mid < length out) (l : length ys ≡ mid - 3) where
   abbrev three : List ℕ
@@ -95,10 +105,6 @@ module _ (out ys : List ℕ) (x y z mid v : ℕ) (h : 3 ≤ mid) (k : mid < leng
       let d : length three ≡ length out = simp length-set in
       part-long three ys 3 mid h (omega arith) l ∙ d
 
-  -- the part, seen again
-  back-part : take (mid - 3) (drop 3 back) ≡ ys
-  back-part = rw back-is (take-at ys (drop (mid - 3) (drop 3 three)) (mid - 3) l)
-
   back-set : take (mid + 1) (set back mid v) ≡ (x ∷ y ∷ z ∷ ys) ++ v ∷ []
   back-set =
       let b = back-long in
@@ -113,6 +119,17 @@ coded-more s out i w h l e inv =
     one-more out i w (map word (drop (i + 1) s)) (omega arith)
     ∙ rw (e, add-one i) (ap (λ (t : List ℕ). take i out ++ map word t) (sym (drop-cons s i 0 h)))
     ∙ inv
+
+-- a part of them
+map-take : (n : ℕ) (s : List ℕ) → take n (map word s) ≡ map word (take n s)
+map-take zero s = refl
+map-take (suc n) [] = refl
+map-take (suc n) (b ∷ s) = ap (λ (t : List ℕ). word b ∷ t) (map-take n s)
+
+map-drop : (n : ℕ) (s : List ℕ) → drop n (map word s) ≡ map word (drop n s)
+map-drop zero s = refl
+map-drop (suc n) [] = refl
+map-drop (suc n) (b ∷ s) = map-drop n s
 
 -- ---- locations
 
@@ -178,9 +195,10 @@ module _ (t : List ℕ) (n : ℕ) (h : n ≡ sizeIn t) (k : n ≤ length t) wher
       go (a ∷ b ∷ c ∷ d ∷ e ∷ []) = refl
       go (a ∷ b ∷ c ∷ d ∷ e ∷ f ∷ u) = let h : f ≤ suc f = omega arith in rw (add-seven f, take-take f (suc f) u h)
 
--- the words of the packets before `at` are written
+-- the words of the packets before `at` are written, and behind them those of the bytes
 pub record Wording (s out : List ℕ) (at : ℕ) : Type 0 where
   pub whole : Whole (drop at s)
+  pub coded : drop at out ≡ map word (drop at s)
   pub long : length out ≡ length s
   pub rest : take at out ++ allWords (packetsShown (drop at s)) ≡ allWords (packetsShown s)
 
@@ -206,19 +224,20 @@ module _ (s out : List ℕ) (at dc : ℕ) (was : Wording s out at) (h : at < len
   enough : end - at ≤ length (drop at s)
   enough = let k = inside in let d = length-drop at s in omega arith
 
-  -- what is lent to `write_words`: the bytes of a packet, and as many numbers
-  pub wording-lent : (length bytes ≡ sizeIn bytes) × (length (take (end - at) (drop at out)) ≡ length bytes)
+  -- what is lent: the words of a packet's bytes
+  pub wording-lent : 7 ≤ length (take (end - at) (drop at out))
   wording-lent =
       let k = inside in
       let l = was .long in
       let a = length-take-le (end - at) (drop at out) (let d = length-drop at out in omega arith) in
-      let b = length-take-le (end - at) (drop at s) enough in
-      (part-size (drop at s) (end - at) size enough, omega arith)
+      omega arith
 
   -- what comes back
-  module _ (ys : List ℕ) (q : ys ≡ words (packetOfBytes bytes)) where
+  module _ (ys : List ℕ) (q : (t : List ℕ) → length t ≡ sizeIn t → take (end - at) (drop at out) ≡ map word t → ys ≡ words (packetOfBytes t)) where
     ys-are : ys ≡ words (packetOfBytes (drop at s))
-    ys-are = q ∙ ap words (part-packet (drop at s) (end - at) size enough)
+    ys-are =
+        q bytes (part-size (drop at s) (end - at) size enough) (ap (take (end - at)) (was .coded) ∙ map-take (end - at) (drop at s))
+        ∙ ap words (part-packet (drop at s) (end - at) size enough)
 
     ys-long : length ys ≡ end - at
     ys-long =
@@ -231,10 +250,16 @@ module _ (s out : List ℕ) (at dc : ℕ) (was : Wording s out at) (h : at < len
         let k = p .inside in
         let l = was .long in
         let qs : List Packet = packetsShown (drop end s) in
+        let again : at + (end - at) ≡ end = omega arith in
         let n : allWords (packetsShown (drop at s)) ≡ ys ++ allWords qs =
         ap allWords (p .front) ∙ ap (λ (v : List ℕ). v ++ allWords qs) (sym ys-are) in
         record {
           whole = p .rest;
+          coded =
+              part-behind out ys at end (omega arith) (omega arith) ys-long
+              ∙ ap (drop (end - at)) (was .coded)
+              ∙ map-drop (end - at) (drop at s)
+              ∙ ap (map word) (drop-drop (end - at) at s ∙ ap (λ (n : ℕ). drop n s) again);
           long = part-long out ys at end (omega arith) (omega arith) ys-long ∙ l;
           rest = part-more out ys at end (omega arith) (omega arith) ys-long (allWords qs) ∙ ap (λ (v : List ℕ). take at out ++ v) (sym n) ∙ was .rest;
         }
@@ -255,30 +280,46 @@ body-bytes (a ∷ b ∷ c ∷ d ∷ e ∷ n ∷ t) h =
     let l : length (take n t) ≡ n = length-take-le n t (omega arith) in
     rw (k, add-three n) (ap (λ (m : ℕ). d ∷ e ∷ m ∷ take n t) (sym l))
 
-module _ (s out ys : List ℕ) (cs : ℕ) (hs : length s ≡ sizeIn s) (ho : length out ≡ length s) (hy : ys ≡ map word (take (length s - 1 - 3) (drop 3 s))) where
+-- where their words stand, the flag is put in front and CS behind
+module _ (s out : List ℕ) (cs : ℕ) (hs : length s ≡ sizeIn s) (ho : out ≡ map word s) where
   abbrev last : ℕ
-  last = length s - 1
+  last = length out - 1
 
-  coded-long : length ys ≡ last - 3
+  abbrev flagged : List ℕ
+  flagged = threeOf out 0x000 0x3FF 0x3FF
+
+  abbrev coded-part : List ℕ
+  coded-part = take (last - 3) (drop 3 flagged)
+
+  out-long : length out ≡ length s
+  out-long = ap length ho ∙ length-map s word
+
+  coded-long : length coded-part ≡ last - 3
   coded-long =
-      ap length hy ∙ length-map (take (last - 3) (drop 3 s)) word ∙ length-take-le (last - 3) (drop 3 s) (let d = length-drop 3 s in omega arith)
+      let d : length flagged ≡ length out = simp length-set in
+      length-take-le (last - 3) (drop 3 flagged) (let e = length-drop 3 flagged in omega arith)
 
-  abbrev lent : List ℕ
-  lent = backOf (threeOf out 0x000 0x3FF 0x3FF) ys last
+  coded-is : coded-part ≡ map word (body (packetOfBytes s))
+  coded-is =
+      let e : last - 3 ≡ length s - 1 - 3 = let l = out-long in omega arith in
+      ap (take (last - 3)) (three-tail out 0x000 0x3FF 0x3FF ∙ ap (drop 3) ho ∙ map-drop 3 s)
+      ∙ ap (λ (n : ℕ). take n (map word (drop 3 s))) e
+      ∙ map-take (length s - 1 - 3) (drop 3 s)
+      ∙ ap (map word) (body-bytes s hs)
 
-  pub lent-long : length lent ≡ length out
-  lent-long = back-long out ys 0x000 0x3FF 0x3FF last cs (omega arith) (omega arith) coded-long
+  -- the part is as it was
+  part-back : backOf flagged coded-part last ≡ flagged
+  part-back = ap (λ (t : List ℕ). take 3 flagged ++ t) (take-append-drop (last - 3) (drop 3 flagged)) ∙ take-append-drop 3 flagged
 
-  pub words-written : cs ≡ check (take (last - 3) (drop 3 lent)) → set lent last cs ≡ words (packetOfBytes s)
+  pub words-written : cs ≡ check coded-part → set flagged last cs ≡ words (packetOfBytes s)
   unfolding words coded checkOf
   words-written e =
-      let c : ys ≡ map word (body (packetOfBytes s)) = hy ∙ ap (map word) (body-bytes s hs) in
-      let f : cs ≡ check (map word (body (packetOfBytes s))) =
-      e ∙ ap check (back-part out ys 0x000 0x3FF 0x3FF last cs (omega arith) (omega arith) coded-long ∙ c) in
-      let n : length (set lent last cs) ≡ last + 1 = length-set lent last cs ∙ lent-long ∙ (omega arith) in
-      sym (take-all (last + 1) (set lent last cs) (omega arith))
-      ∙ back-set out ys 0x000 0x3FF 0x3FF last cs (omega arith) (omega arith) coded-long
-      ∙ ap₂ (λ (t : List ℕ) (w : ℕ). 0x000 ∷ 0x3FF ∷ 0x3FF ∷ (t ++ w ∷ [])) c f
+      let l = out-long in
+      let n : length (set flagged last cs) ≡ last + 1 = simp length-set (omega arith) in
+      sym (take-all (last + 1) (set flagged last cs) (omega arith))
+      ∙ ap (λ (t : List ℕ). take (last + 1) (set t last cs)) (sym part-back)
+      ∙ back-set out coded-part 0x000 0x3FF 0x3FF last cs (omega arith) (omega arith) coded-long
+      ∙ ap₂ (λ (t : List ℕ) (w : ℕ). 0x000 ∷ 0x3FF ∷ 0x3FF ∷ (t ++ w ∷ [])) coded-is (e ∙ ap check coded-is)
 
 -- ---- the sections
 
