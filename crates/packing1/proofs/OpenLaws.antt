@@ -26,7 +26,7 @@ use Rattle.rules.proofs.Basics.{never, both, second-false, take-bytes, drop-byt
 use Rattle.rules.proofs.Strings.{danc-length, itemOf, bytes-laid, string-room}
 use Rattle.rules.proofs.Packs.{flat-fives, flat-length, lead-within}
 use Rattle.danc.proofs.Validation.{fault-small}
-use Rattle.packing1.specs.Open.{packsAt, Within, used, orderFrom, fits, PacksEnd, allCarriers, Moved, CarriersOpened, PacketOpened, codeOf, Opens, packetsFrom, packetsOfFives}
+use Rattle.packing1.specs.Open.{packsAt, Within, used, orderFrom, SameOrder, fits, PacksEnd, allCarriers, Moved, CarriersOpened, PacketOpened, codeOf, Opens, packetsFrom, packetsOfFives}
 
 -- ---- fill
 
@@ -207,6 +207,22 @@ module _ (us : List ℕ) (at total r : ℕ) (h : at + 5 ≤ total) (l : total �
 
     pub order-wrong : allIs 0xFF (take (total - at) (drop at us)) ≡ false → 1 ≡ orderFrom false at (packsAt us at total)
     order-wrong e = sym (rest-is ∙ ap (λ (b : Bool). cond b (at + 5 * 0) 1) e)
+
+-- carriers in front, passed one by one
+pub passed-none : (us : List ℕ) (at total : ℕ) → at ≤ total → (total - at) % 5 ≡ 0 → SameOrder us at total at
+passed-none us at total h m = record { reach = omega arith; within = h; whole = m; same = refl }
+
+pub passed-more : (us : List ℕ) (at total end : ℕ) → SameOrder us at total end → end < total → total ≤ length us → getD us end 0 ≡ 0xE2
+    → SameOrder us at total (end + 5)
+passed-more us at total end v h l e =
+    let a = v .reach in
+    let m = v .whole in
+    record {
+      reach = omega arith;
+      within = omega arith;
+      whole = omega arith;
+      same = order-carrier us end total _ (omega arith) l e refl ∙ v .same;
+    }
 
 -- ---- carriers
 

@@ -40,6 +40,13 @@ used (p ∷ ps) = cond (eqb (p .b0) 0xE1 || eqb (p .b0) 0xE2) (suc (used ps)) 0
 unfoldable pub orderFrom : Bool → ℕ → List Five → ℕ
 orderFrom after at ps = cond (inOrder after ps) (at + 5 * used ps) 1
 
+-- r is a place of a pack too, and the packs from there on are in order where those from `at` on are, with fill from the same place on
+pub record SameOrder (us : List ℕ) (at total r : ℕ) : Type 0 where
+  pub reach : at ≤ r
+  pub within : r ≤ total
+  pub whole : (total - r) % 5 ≡ 0
+  pub same : orderFrom false r (packsAt us r total) ≡ orderFrom false at (packsAt us at total)
+
 -- ---- one packet
 
 -- the packet in front has a starter, and passes 14

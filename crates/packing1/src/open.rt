@@ -12,6 +12,7 @@ ghost use Rattle.packing1.specs.Open.{
   packsAt,
   used,
   orderFrom,
+  SameOrder,
   CarriersOpened,
   PacksEnd,
   PacketOpened,
@@ -36,6 +37,22 @@ fn refusal(number: u64, packet: usize) -> usize
     REFUSED + 1024 * (number as usize) + packet
 }
 
+// Where the carriers end that stand from `at` on, if any do. Behind a carrier a carrier, a starter and fill may stand: a run of them needs no
+// more than this loop.
+fn carriers_end(us: &[u8; 9360], at: usize, total: usize) -> usize
+    requires { ⌜ (at ≤ total) × (total ≤ 9360) × ((total - at) % 5 ≡ 0) × (length (now us) ≡ 9360) ⌝ }
+    ensures { λ r. ⌜ SameOrder (now (us .entry)) at total r ⌝ }
+{
+    let mut end = at;
+    while end < total {
+        if us[end] != 0xE2 {
+            return end;
+        }
+        end += 5;
+    }
+    end
+}
+
 // "every pack is a starter, a carrier or five FFh": where fill begins, or 1, no place of a pack, where the order is wrong.
 fn starter(us: &[u8; 9360], at: usize, total: usize) -> usize
     requires { ⌜ (at ≤ total) × (total ≤ 9360) × ((total - at) % 5 ≡ 0) × (length (now us) ≡ 9360) ⌝ }
@@ -46,7 +63,7 @@ fn starter(us: &[u8; 9360], at: usize, total: usize) -> usize
     }
     let head = us[at];
     if head == 0xE2 {
-        return starter(us, at + 5, total);
+        return starter(us, carriers_end(us, at + 5, total), total);
     }
     if head == 0xE1 {
         return carrier(us, at + 5, total);

@@ -12,6 +12,7 @@ use Rattle.packing1.proofs.open.starter.Reads as starter
 use Rattle.packing1.proofs.open.starter.Kinds as starter-kinds
 use Rattle.packing1.proofs.open.+carrier+starter.Lts-starter as starter-lts
 use Rattle.danc.proofs.all_fill.Reads as all-fill-reads
+use Rattle.packing1.proofs.open.carriers_end.Reads as carriers-end-reads
 use Rattle.packing1.proofs.open.+carrier+starter.{statement}
 use Rattle.packing1.proofs.open.+carrier+starter.Tie.{close}
 
@@ -65,6 +66,8 @@ carrier-returns-3 :
 carrier-returns-3 t c = let a = c .before .before .before .args in let z = c .before .before .before .pre .1 in order-no-carrier (a .us .now) (a .at) (a .total) (1) (omega arith) (omega arith) (c .if2 .left)
 
 starter-returns : (t : ℕ) → starter-lts.Need-returns (
+  carriers-end-reads.Asked,
+  carriers-end-reads.Learnt,
   starter-below t,
   starter.Post,
   carrier-below t,
@@ -75,6 +78,8 @@ starter-returns : (t : ℕ) → starter-lts.Need-returns (
 starter-returns t c = order-end (c .before .args .us .now) (c .before .args .at) (c .before .args .total) (c .if1 .taken)
 
 starter-element-copy-out-head : (t : ℕ) → starter-lts.Need-element-copy-out-head (
+  carriers-end-reads.Asked,
+  carriers-end-reads.Learnt,
   starter-below t,
   starter.Post,
   carrier-below t,
@@ -84,7 +89,9 @@ starter-element-copy-out-head : (t : ℕ) → starter-lts.Need-element-copy-out-
 ) (starter-at t) starter.Post
 starter-element-copy-out-head t c = search needs
 
-starter-add-starter : (t : ℕ) → starter-lts.Need-add-starter (
+starter-add-carriers-end : (t : ℕ) → starter-lts.Need-add-carriers-end (
+  carriers-end-reads.Asked,
+  carriers-end-reads.Learnt,
   starter-below t,
   starter.Post,
   carrier-below t,
@@ -92,9 +99,23 @@ starter-add-starter : (t : ℕ) → starter-lts.Need-add-starter (
   all-fill-reads.Asked,
   all-fill-reads.Learnt,
 ) (starter-at t) starter.Post
-starter-add-starter t c = search needs
+starter-add-carriers-end t c = search needs
+
+starter-carriers-end-requires : (t : ℕ) → starter-lts.Need-carriers-end-requires (
+  carriers-end-reads.Asked,
+  carriers-end-reads.Learnt,
+  starter-below t,
+  starter.Post,
+  carrier-below t,
+  carrier.Post,
+  all-fill-reads.Asked,
+  all-fill-reads.Learnt,
+) (starter-at t) starter.Post
+starter-carriers-end-requires t c κs = search needs
 
 starter-starter-requires : (t : ℕ) → starter-lts.Need-starter-requires (
+  carriers-end-reads.Asked,
+  carriers-end-reads.Learnt,
   starter-below t,
   starter.Post,
   carrier-below t,
@@ -105,6 +126,8 @@ starter-starter-requires : (t : ℕ) → starter-lts.Need-starter-requires (
 starter-starter-requires t c κs = search needs
 
 starter-returns-2 : (t : ℕ) → starter-lts.Need-returns-2 (
+  carriers-end-reads.Asked,
+  carriers-end-reads.Learnt,
   starter-below t,
   starter.Post,
   carrier-below t,
@@ -112,9 +135,11 @@ starter-returns-2 : (t : ℕ) → starter-lts.Need-returns-2 (
   all-fill-reads.Asked,
   all-fill-reads.Learnt,
 ) (starter-at t) starter.Post
-starter-returns-2 t c = let a = c .before .before .before .before .args in let z = c .before .before .before .before .pre .1 in order-carrier (a .us .now) (a .at) (a .total) (c .starter .result) (omega arith) (omega arith) (c .before .if2 .taken) (c .starter .ensures)
+starter-returns-2 t c = let a = c .before .before .before .before .before .args in let z = c .before .before .before .before .before .pre .1 in order-carrier (a .us .now) (a .at) (a .total) (c .starter .result) (omega arith) (omega arith) (c .before .before .if2 .taken) (c .starter .ensures ∙ c .before .carriers-end .ensures .same)
 
 starter-add-carrier : (t : ℕ) → starter-lts.Need-add-carrier (
+  carriers-end-reads.Asked,
+  carriers-end-reads.Learnt,
   starter-below t,
   starter.Post,
   carrier-below t,
@@ -125,6 +150,8 @@ starter-add-carrier : (t : ℕ) → starter-lts.Need-add-carrier (
 starter-add-carrier t c = search needs
 
 starter-carrier-requires : (t : ℕ) → starter-lts.Need-carrier-requires (
+  carriers-end-reads.Asked,
+  carriers-end-reads.Learnt,
   starter-below t,
   starter.Post,
   carrier-below t,
@@ -135,6 +162,8 @@ starter-carrier-requires : (t : ℕ) → starter-lts.Need-carrier-requires (
 starter-carrier-requires t c κs = search needs
 
 starter-returns-3 : (t : ℕ) → starter-lts.Need-returns-3 (
+  carriers-end-reads.Asked,
+  carriers-end-reads.Learnt,
   starter-below t,
   starter.Post,
   carrier-below t,
@@ -145,6 +174,8 @@ starter-returns-3 : (t : ℕ) → starter-lts.Need-returns-3 (
 starter-returns-3 t c = let a = c .before .before .before .before .before .args in let z = c .before .before .before .before .before .pre .1 in order-starter (a .us .now) (a .at) (a .total) (c .carrier .result) (omega arith) (omega arith) (c .before .if3 .taken) (c .carrier .ensures)
 
 starter-sub-all-fill : (t : ℕ) → starter-lts.Need-sub-all-fill (
+  carriers-end-reads.Asked,
+  carriers-end-reads.Learnt,
   starter-below t,
   starter.Post,
   carrier-below t,
@@ -155,6 +186,8 @@ starter-sub-all-fill : (t : ℕ) → starter-lts.Need-sub-all-fill (
 starter-sub-all-fill t c = search needs
 
 starter-part-all-fill-start : (t : ℕ) → starter-lts.Need-part-all-fill-start (
+  carriers-end-reads.Asked,
+  carriers-end-reads.Learnt,
   starter-below t,
   starter.Post,
   carrier-below t,
@@ -165,6 +198,8 @@ starter-part-all-fill-start : (t : ℕ) → starter-lts.Need-part-all-fill-start
 starter-part-all-fill-start t c = search needs
 
 starter-part-all-fill-end : (t : ℕ) → starter-lts.Need-part-all-fill-end (
+  carriers-end-reads.Asked,
+  carriers-end-reads.Learnt,
   starter-below t,
   starter.Post,
   carrier-below t,
@@ -175,6 +210,8 @@ starter-part-all-fill-end : (t : ℕ) → starter-lts.Need-part-all-fill-end (
 starter-part-all-fill-end t c = search needs
 
 starter-all-fill-requires : (t : ℕ) → starter-lts.Need-all-fill-requires (
+  carriers-end-reads.Asked,
+  carriers-end-reads.Learnt,
   starter-below t,
   starter.Post,
   carrier-below t,
@@ -185,6 +222,8 @@ starter-all-fill-requires : (t : ℕ) → starter-lts.Need-all-fill-requires (
 starter-all-fill-requires t c κs = search needs
 
 starter-returns-4 : (t : ℕ) → starter-lts.Need-returns-4 (
+  carriers-end-reads.Asked,
+  carriers-end-reads.Learnt,
   starter-below t,
   starter.Post,
   carrier-below t,
@@ -195,6 +234,8 @@ starter-returns-4 : (t : ℕ) → starter-lts.Need-returns-4 (
 starter-returns-4 t c = let a = c .before .before .before .before .before .before .before .before .args in let z = c .before .before .before .before .before .before .before .before .pre .1 in order-fill (a .us .now) (a .at) (a .total) (1) (omega arith) (omega arith) (z .2) (c .before .before .before .before .before .if2 .left) (c .before .before .before .before .if3 .left) (sym (c .before .all-fill .ensures) ∙ c .if4 .taken)
 
 starter-returns-5 : (t : ℕ) → starter-lts.Need-returns-5 (
+  carriers-end-reads.Asked,
+  carriers-end-reads.Learnt,
   starter-below t,
   starter.Post,
   carrier-below t,
@@ -218,6 +259,8 @@ pub +carrier+starter-spec : {M : Type 1} → statement M
     (carrier-returns-2 t)
     (carrier-returns-3 t))
     λ t. starter-lts.spec (
+      carriers-end-reads.Asked,
+      carriers-end-reads.Learnt,
       starter-below t,
       starter.Post,
       carrier-below t,
@@ -229,7 +272,8 @@ pub +carrier+starter-spec : {M : Type 1} → statement M
     starter.Post
     (starter-returns t)
     (starter-element-copy-out-head t)
-    (starter-add-starter t)
+    (starter-add-carriers-end t)
+    (starter-carriers-end-requires t)
     (starter-starter-requires t)
     (starter-returns-2 t)
     (starter-add-carrier t)
