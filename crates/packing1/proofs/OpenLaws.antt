@@ -341,7 +341,6 @@ pub record Carrying (before us : List ℕ) (from stop to f o : ℕ) : Type 0 whe
   pub low : o ≤ f
   pub high : f ≤ stop
   pub whole : (stop - f) % 5 ≡ 0
-  pub more : to ≤ o
   pub long : length us ≡ length before
   pub kept : drop stop us ≡ drop stop before
   pub laid : take o us ++ carried (packsAt us f stop) ≡ take to before ++ carried (packsAt before from stop)
@@ -358,7 +357,6 @@ carry-none us from stop to w h =
       low = h;
       high = omega arith;
       whole = w .whole;
-      more = omega arith;
       long = refl;
       kept = refl;
       laid = refl;
@@ -388,13 +386,11 @@ module _ (before us : List ℕ) (from stop to f o : ℕ) (room : stop ≤ length
         let p = place in
         let i = reach in
         let m = v .whole in
-        let n = v .more in
         let s = sets-front us o (fourAt us f) (omega arith) in
         record {
           low = omega arith;
           high = p;
           whole = omega arith;
-          more = omega arith;
           long = length-sets us o (fourAt us f) ∙ v .long;
           kept = sets-behind us o (fourAt us f) stop (omega arith) ∙ v .kept;
           laid = rw (s, rest-kept, append-assoc (take o us) (fourAt us f) (carried (packsAt us (f + 5) stop))) (rw front-is at (v .laid));
@@ -405,29 +401,26 @@ module _ (before us : List ℕ) (from stop to f o : ℕ) (room : stop ≤ length
         → Carrying before (set (set (set (set us o (getD us (f + 1) 0)) (o + 1) (getD us (f + 2) 0)) (o + 2) (getD us (f + 3) 0)) (o + 3) (getD us (f + 4) 0)) from stop to (f + 5) (o + 4)
     carry-more e = rw (add-one o, add-two o, add-three o) (four-more e)
 
-    pub carry-wrong : (getD us f 0 ≡ 0xE2 → ⊥) → CarriersOpened before us from stop to 0
+    pub carry-wrong : (getD us f 0 ≡ 0xE2 → ⊥) → CarriersOpened before us from stop to false
     carry-wrong n =
         let k : allCarriers (packsAt us f stop) ≡ false = rw (front-is, ne-eqb (getD us f 0) 0xE2 n) in
-        record { shut = λ z. sym (v .all) ∙ k; carriers = λ z. absurd (z refl); end = λ z. absurd (z refl); moved = λ z. absurd (z refl) }
+        record { carriers = sym k ∙ v .all; moved = λ z. never (cc) }
 
-  module _ (done : stop ≤ f) (some : 0 < to) where
+  module _ (done : stop ≤ f) where
     all-laid : take o us ≡ take to before ++ carried (packsAt before from stop)
     all-laid = sym (append-nil (take o us)) ∙ (rw (packs-none us f stop done) at (v .laid))
 
-    pub carry-done : from ≤ stop → to ≤ from → CarriersOpened before us from stop to o
+    pub carry-done : from ≤ stop → to ≤ from → CarriersOpened before us from stop to true
     carry-done h k =
         let a = v .low in
         let b = v .high in
         let c = v .long in
-        let d = v .more in
         let x : length (take o us) ≡ o = length-take-le o us (omega arith) in
         let y : length (take to before) ≡ to = length-take-le to before (omega arith) in
         let l = length-append (take to before) (carried (packsAt before from stop)) in
         let m : o ≡ to + length (carried (packsAt before from stop)) = let n = ap length all-laid in omega arith in
         record {
-          shut = λ z. absurd (omega arith);
-          carriers = λ z. sym (v .all) ∙ ap allCarriers (packs-none us f stop done);
-          end = λ z. m;
+          carriers = ap allCarriers (sym (packs-none us f stop done)) ∙ v .all;
           moved = λ z. record { laid = ap (λ (n : ℕ). take n us) (sym m) ∙ all-laid; kept = v .kept };
         }
 
@@ -548,19 +541,16 @@ module _ (us : List ℕ) (at total stop to : ℕ) (w : Within us at total) (e : 
         ap fits c ∙ fits-is (packAt us at) ps front dc (e .starts z) (ap frontBytes (sym c) ∙ front-is-bytes) dc-is many
 
   -- after the carriers were opened
-  module _ (after : List ℕ) (full : ℕ) (v : CarriersOpened (headed us at to) after (at + 5) stop (to + 3) full) where
-    pub opened-shut : full ≡ 0 → fits (packsAt us at total) ≡ false
-    opened-shut f = carriers-shut (ap allCarriers (sym cs-kept) ∙ v .shut f)
+  module _ (after : List ℕ) (r : Bool) (v : CarriersOpened (headed us at to) after (at + 5) stop (to + 3) r) where
+    carriers-are : (t : Bool) → r ≡ t → allCarriers cs ≡ t
+    carriers-are t f = ap allCarriers (sym cs-kept) ∙ sym (v .carriers) ∙ f
 
-    module _ (y : full ≡ 0 → ⊥) where
+    pub opened-shut : r ≡ false → fits (packsAt us at total) ≡ false
+    opened-shut f = carriers-shut (carriers-are false f)
+
+    module _ (y : r ≡ true) where
       opened-all : allCarriers cs ≡ true
-      opened-all = ap allCarriers (sym cs-kept) ∙ v .carriers y
-
-      pub full-is : full ≡ to + length front
-      full-is = let k = v .end y ∙ ap (λ (s : List Five). to + 3 + length (carried s)) cs-kept in omega arith
-
-      pub full-between : (to + dc + 7 ≤ full) × (full ≤ stop)
-      full-between = let k = full-is in let l = front-length in let p = stop-is in (omega arith, omega arith)
+      opened-all = carriers-are true y
 
       opened-moved : Moved us after to front stop
       opened-moved =
@@ -579,32 +569,38 @@ module _ (us : List ℕ) (at total stop to : ℕ) (w : Within us at total) (e : 
             kept = m .kept ∙ headed-behind us at to stop (omega arith);
           }
 
-      -- the unused bytes, where d is DC
-      pub unused-is : (d : ℕ) → d ≡ dc → take (full - (to + d + 7)) (drop (to + d + 7) after) ≡ drop (dc + 7) front
-      unused-is d q =
-          let i = inside in
-          let p = stop-is in
-          let t : length (take to us) ≡ to = length-take-le to us (omega arith) in
-          let k : full - (to + d + 7) ≡ length front - (dc + 7) = let f = full-is in omega arith in
-          let m : to + d + 7 ≡ to + (dc + 7) = omega arith in
-          rw (k, m)
-          (window-part after (take to us) front to t (opened-moved .laid) (dc + 7) (length front) (omega arith) ∙ ap (drop (dc + 7)) (take-length front))
+      -- d is DC as it was read
+      module _ (d : ℕ) (q : d ≡ dc) where
+        abbrev unused : List ℕ
+        unused = take (to + (d + 3) / 4 * 4 + 7 - (to + d + 7)) (drop (to + d + 7) after)
 
-      pub packet-shut : (d : ℕ) → d ≡ dc → allIs 0xFF (take (full - (to + d + 7)) (drop (to + d + 7) after)) ≡ false → fits (packsAt us at total) ≡ false
-      packet-shut d q f = fits-front opened-all ∙ ap (allIs 0xFF) (sym (unused-is d q)) ∙ f
+        unused-is : unused ≡ drop (dc + 7) front
+        unused-is =
+            let i = inside in
+            let p = stop-is in
+            let t : length (take to us) ≡ to = length-take-le to us (omega arith) in
+            let k : to + (d + 3) / 4 * 4 + 7 - (to + d + 7) ≡ length front - (dc + 7) = let l = front-length in omega arith in
+            let m : to + d + 7 ≡ to + (dc + 7) = omega arith in
+            rw (k, m)
+            (window-part after (take to us) front to t (opened-moved .laid) (dc + 7) (length front) (omega arith) ∙ ap (drop (dc + 7)) (take-length front))
 
-      pub packet-opened : (d : ℕ) → d ≡ dc → allIs 0xFF (take (full - (to + d + 7)) (drop (to + d + 7) after)) ≡ true
-          → PacketOpened us after at total to stop
-      packet-opened d q f =
-          let g = front-is-bytes opened-all in
-          let m = opened-moved in
-          record {
-            shut = λ o. absurd (z o);
-            passes = λ o. fits-front opened-all ∙ ap (allIs 0xFF) (sym (unused-is d q)) ∙ f;
-            place = λ o. e .place z ∙ ap (λ (k : ℕ). at + 10 + (k + 3) / 4 * 5) (sym (ap (λ (s : List ℕ). getD s 5 0) g ∙ dc-is));
-            within = e .within;
-            moved = λ o. rw g m;
-          }
+        fits-unused : fits (packsAt us at total) ≡ allIs 0xFF unused
+        fits-unused = fits-front opened-all ∙ ap (allIs 0xFF) (sym unused-is)
+
+        pub packet-shut : allIs 0xFF unused ≡ false → fits (packsAt us at total) ≡ false
+        packet-shut f = fits-unused ∙ f
+
+        pub packet-opened : allIs 0xFF unused ≡ true → PacketOpened us after at total to stop
+        packet-opened f =
+            let g = front-is-bytes opened-all in
+            let m = opened-moved in
+            record {
+              shut = λ o. absurd (z o);
+              passes = λ o. fits-unused ∙ f;
+              place = λ o. e .place z ∙ ap (λ (k : ℕ). at + 10 + (k + 3) / 4 * 5) (sym (ap (λ (s : List ℕ). getD s 5 0) g ∙ dc-is));
+              within = e .within;
+              moved = λ o. rw g m;
+            }
 
 pub packet-not : (us after : List ℕ) (at total to : ℕ) → fits (packsAt us at total) ≡ false → PacketOpened us after at total to 0
 packet-not us after at total to f =

@@ -71,12 +71,10 @@ pub record Moved (before after : List ℕ) (to : ℕ) (s : List ℕ) (stop : ℕ
   pub laid : take (to + length s) after ≡ take to before ++ s
   pub kept : drop stop after ≡ drop stop before
 
--- what the carriers from a place to another carry was moved to a third, where it ends at r; 0: a pack is no carrier
-pub record CarriersOpened (before after : List ℕ) (from stop to r : ℕ) : Type 0 where
-  pub shut : r ≡ 0 → allCarriers (packsAt before from stop) ≡ false
-  pub carriers : (r ≡ 0 → ⊥) → allCarriers (packsAt before from stop) ≡ true
-  pub end : (r ≡ 0 → ⊥) → r ≡ to + length (carried (packsAt before from stop))
-  pub moved : (r ≡ 0 → ⊥) → Moved before after to (carried (packsAt before from stop)) stop
+-- what the carriers from a place to another carry was moved to a third, where all packs between are carriers, which r tells
+pub record CarriersOpened (before after : List ℕ) (from stop to : ℕ) (r : Bool) : Type 0 where
+  pub carriers : r ≡ allCarriers (packsAt before from stop)
+  pub moved : r ≡ true → Moved before after to (carried (packsAt before from stop)) stop
 
 -- the bytes of the packet at a place were moved to another, and its packs end at r; 0: it does not pass 14
 pub record PacketOpened (before after : List ℕ) (at total to r : ℕ) : Type 0 where

@@ -113,16 +113,16 @@ fn packs_end(us: &[u8], at: usize, total: usize) -> usize
     stop
 }
 
-// The bytes of the carriers from `from` to `stop`, moved down to `to`: where they end there, or 0 where a pack is no carrier.
-fn open_carriers(us: &mut [u8], from: usize, stop: usize, to: usize) -> usize
-    requires { ⌜ Within (now us) from stop × (0 < to) × (to ≤ from) ⌝ }
+// The bytes of the carriers from `from` to `stop`, moved down to `to`; false where a pack is no carrier.
+fn open_carriers(us: &mut [u8], from: usize, stop: usize, to: usize) -> bool
+    requires { ⌜ Within (now us) from stop × (to ≤ from) ⌝ }
     ensures { λ r. ⌜ CarriersOpened (now (us .entry)) (now (us .exit)) from stop to r ⌝ }
 {
     let mut f = from;
     let mut o = to;
     while f < stop {
         if us[f] != 0xE2 {
-            return 0;
+            return false;
         }
         let a = us[f + 1];
         let b = us[f + 2];
@@ -135,11 +135,11 @@ fn open_carriers(us: &mut [u8], from: usize, stop: usize, to: usize) -> usize
         f += 5;
         o += 4;
     }
-    o
+    true
 }
 
 // The packet that starts at `at`, from header byte 0 on, moved down to `to`: where its packs end, or 0 for 14. "the unused bytes are
-// not FFh"
+// not FFh": they stand from `end`, the packet's, to `full`, where the bytes of its carriers end, four in each.
 fn open_packet(us: &mut [u8], at: usize, total: usize, to: usize) -> usize
     requires { ⌜ Within (now us) at total × (to ≤ at) ⌝ }
     ensures { λ r. ⌜ PacketOpened (now (us .entry)) (now (us .exit)) at total to r ⌝ }
@@ -148,15 +148,16 @@ fn open_packet(us: &mut [u8], at: usize, total: usize, to: usize) -> usize
     if stop == 0 {
         return 0;
     }
-    let end = to + wide(us[at + 8]) + 7;
+    let dc = wide(us[at + 8]);
+    let end = to + dc + 7;
+    let full = to + (dc + 3) / 4 * 4 + 7;
     let h0 = us[at + 2];
     let h1 = us[at + 3];
     let h2 = us[at + 4];
     us[to] = h0;
     us[to + 1] = h1;
     us[to + 2] = h2;
-    let full = open_carriers(us, at + 5, stop, to + 3);
-    if full == 0 {
+    if !open_carriers(us, at + 5, stop, to + 3) {
         return 0;
     }
     if !danc::all_fill(&us[end..full]) {

@@ -13,7 +13,7 @@ abbrev μ-loop : tie.MeasureT-loop
 μ-loop us₀ from stop to f₀ o₀ us f o = stop - f
 
 loop-holds : tie.Need-loop-holds Inv-loop μ-loop
-loop-holds c = carry-none (c .args .us .now) (c .args .from) (c .args .stop) (c .args .to) (c .pre .0) (c .pre .2)
+loop-holds c = carry-none (c .args .us .now) (c .args .from) (c .args .stop) (c .args .to) (c .pre .0) (c .pre .1)
 
 slice-read-if1 : tie.Need-slice-read-if1 Inv-loop μ-loop
 slice-read-if1 c = search needs
@@ -85,7 +85,7 @@ same-length-2 : tie.Need-same-length-2 Inv-loop μ-loop
 same-length-2 c = c .before .loop .inv .long
 
 returns-2 : tie.Need-returns-2 Inv-loop μ-loop
-returns-2 c = let w = c .before .before .pre .0 .one in carry-done (c .before .before .args .us .now) (c .before .loop .us) (c .before .before .args .from) (c .before .before .args .stop) (c .before .before .args .to) (c .before .loop .f) (c .before .loop .o) (c .before .before .pre .0 .all) (c .before .loop .inv) (c .loop-test .left) (c .before .before .pre .1) (omega arith) (c .before .before .pre .2)
+returns-2 c = let w = c .before .before .pre .0 .one in carry-done (c .before .before .args .us .now) (c .before .loop .us) (c .before .before .args .from) (c .before .before .args .stop) (c .before .before .args .to) (c .before .loop .f) (c .before .loop .o) (c .before .before .pre .0 .all) (c .before .loop .inv) (c .loop-test .left) (omega arith) (c .before .before .pre .1)
 
 pub open-carriers-spec : {M : Type 1} → statement M
 open-carriers-spec =
