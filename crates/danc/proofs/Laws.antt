@@ -9,8 +9,8 @@ use mathlib.Core.List.{List, [], _∷_, map}
 use native.Mathlib.Nat.{le-of-eq}
 use native.Mathlib.Omega.{arith}
 use lib.Dec.{eqb, ltb, leb}
-use lib.ListN.{length, getD, take, drop, length-drop}
-use lib.Seq.{length-take-le, getD-drop, take-all}
+use lib.ListN.{length, getD, take, drop, length-drop, length-take}
+use lib.Seq.{length-take-le, getD-take, getD-drop, take-all}
 use borrow.Author.Tests.{ltb-false, leb-true, leb-false, eqb-true, lt-ltb, le-ltb, eq-eqb, ne-eqb, le-leb, lt-leb}
 use Rattle.rules.specs.Base.{sum}
 use Rattle.rules.specs.Systems.{System, known, system, stands}
@@ -150,6 +150,16 @@ part-room y s at n w z =
     let k = fault-room y (drop at s) (sym (rw (rest-part at s) at w) ∙ z) in
     let d = length-drop at s in
     let g = getD-drop at s 5 0 in
+    omega arith
+
+-- the same of a part of a longer run
+pub run-room : (y : System) (us : List ℕ) (end at n : ℕ) → n ≡ stringFault y (take (end - at) (drop at us)) → n ≡ 0
+    → at + (getD us (at + 5) 0 + 7) ≤ end
+run-room y us end at n w z =
+    let k = fault-room y (take (end - at) (drop at us)) (sym w ∙ z) in
+    let l = length-take (end - at) (drop at us) in
+    let g = getD-take (end - at) (drop at us) 5 0 (omega arith) in
+    let h = getD-drop at us 5 0 in
     omega arith
 
 -- ---- a step of the walker

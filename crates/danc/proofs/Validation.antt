@@ -10,7 +10,7 @@ use native.Mathlib.Omega.{arith}
 use native.Mathlib.Numerals.{add-one}
 use lib.Dec.{eqb, ltb}
 use lib.ListN.{length, getD, take, drop, length-drop}
-use lib.Seq.{length-take-le, getD-drop, drop-drop}
+use lib.Seq.{length-take-le, getD-take, getD-drop, drop-drop}
 use borrow.Author.Tests.{ne-eqb, eqb-true}
 use Rattle.rules.specs.Systems.{System}
 use Rattle.rules.specs.Packet.{Packet, checkOf}
@@ -19,9 +19,9 @@ use Rattle.rules.specs.Sheet.{limit}
 use Rattle.rules.specs.Numbers.{Outcome, listed, refused, also, packetsIn}
 use Rattle.rules.specs.Reading.{packetOfBytes, lineFault, bytesFault, stringFault, stringEnds, stringRow}
 use Rattle.danc.specs.Validated.{codeOf, validated, Within}
-use Rattle.danc.proofs.Laws.{rest-part, fault-room}
+use Rattle.rules.proofs.Basics.{drop-take}
+use Rattle.danc.proofs.Laws.{fault-room, run-room}
 
--- a fault's number is at most 16
 -- no fault has a number over 16
 pub fault-small : (y : System) (s : List ℕ) → stringFault y s ≤ 16
 unfolding stringFault bytesFault
@@ -44,65 +44,72 @@ code-also : (at k : ℕ) (p : Packet) (o : Outcome) → codeOf at k (also p o) �
 code-also at k p (listed ps) = omega arith
 code-also at k p (refused n i) = refl
 
--- from what the code holds: a part of the slice, and the tests of it
-module _ (y : System) (room : ℕ) (s : List ℕ) (at k : ℕ) where
+-- from what the code holds: a part of the run that the string is the front of, and the tests of it
+module _ (y : System) (room : ℕ) (us : List ℕ) (end at k : ℕ) where
   abbrev part : List ℕ
-  part = take (length s - at) (drop at s)
+  part = take (end - at) (drop at us)
 
-  pub at-end : true ≡ stringEnds room part → k + 1024 * at ≡ validated y room s at k
+  -- the rest of the string
+  abbrev rest : List ℕ
+  rest = drop at (take end us)
+
+  rest-is : rest ≡ part
+  rest-is = drop-take at end us
+
+  pub at-end : true ≡ stringEnds room part → k + 1024 * at ≡ validated y room (take end us) at k
   unfolding validated stringRow
   at-end e = go (limit - k)
     where
-      f : stringEnds room (drop at s) ≡ true
-      f = sym (rw (rest-part at s) at e)
+      f : stringEnds room rest ≡ true
+      f = ap (stringEnds room) rest-is ∙ sym e
 
-      go : (left : ℕ) → k + 1024 * at ≡ codeOf at k (packetsIn (stringRow y room) left k (drop at s))
+      go : (left : ℕ) → k + 1024 * at ≡ codeOf at k (packetsIn (stringRow y room) left k rest)
       go zero = rw f (omega arith)
       go (suc left) = rw f (omega arith)
 
   module _ (e : false ≡ stringEnds room part) where
-    goes-on : stringEnds room (drop at s) ≡ false
-    goes-on = sym (rw (rest-part at s) at e)
+    goes-on : stringEnds room rest ≡ false
+    goes-on = ap (stringEnds room) rest-is ∙ sym e
 
-    pub at-limit : k ≡ 512 → 1073741824 + 1024 * 5 + k ≡ validated y room s at k
+    pub at-limit : k ≡ 512 → 1073741824 + 1024 * 5 + k ≡ validated y room (take end us) at k
     unfolding validated stringRow limit
     at-limit h = let z : 512 - k ≡ 0 = omega arith in rw (z, goes-on)
 
     module _ (l : k ≤ limit) (h : k ≡ 512 → ⊥) (n : ℕ) (w : n ≡ stringFault y part) where
-      fault-at : stringFault y (drop at s) ≡ n
-      fault-at = sym (rw (rest-part at s) at w)
+      fault-at : stringFault y rest ≡ n
+      fault-at = ap (stringFault y) rest-is ∙ sym w
 
-      one-packet : packetsIn (stringRow y room) (limit - k) k (drop at s)
-          ≡ cond (eqb n 0) (also (packetOfBytes (drop at s)) (packetsIn (stringRow y room) (limit - (k + 1)) (k + 1) (drop (getD (drop at s) 5 0 + 7) (drop at s))))
-          (refused n k)
+      one-packet : packetsIn (stringRow y room) (limit - k) k rest
+          ≡ cond (eqb n 0) (also (packetOfBytes rest) (packetsIn (stringRow y room) (limit - (k + 1)) (k + 1) (drop (getD rest 5 0 + 7) rest))) (refused n k)
       unfolding stringRow limit
       one-packet =
           let z : 512 - k ≡ suc (512 - (k + 1)) = omega arith in
           rw (z, goes-on, fault-at, add-one k)
 
-      pub at-fault : (n ≡ 0 → ⊥) → 1073741824 + 1024 * n + k ≡ validated y room s at k
+      pub at-fault : (n ≡ 0 → ⊥) → 1073741824 + 1024 * n + k ≡ validated y room (take end us) at k
       unfolding validated
       at-fault f = rw (one-packet, ne-eqb n 0 f)
 
       -- a packet without a fault, and where the next one begins
-      module _ (f : n ≡ 0) (dc : ℕ) (d : dc ≡ getD s (at + 5) 0) where
-        dc-at : getD (drop at s) 5 0 ≡ dc
-        dc-at = getD-drop at s 5 0 ∙ sym d
+      module _ (f : n ≡ 0) (dc : ℕ) (d : dc ≡ getD us (at + 5) 0) where
+        dc-at : getD rest 5 0 ≡ dc
+        dc-at =
+            let r = run-room y us end at n w f in
+            ap (λ (t : List ℕ). getD t 5 0) rest-is ∙ getD-take (end - at) (drop at us) 5 0 (omega arith) ∙ getD-drop at us 5 0 ∙ sym d
 
-        whole : dc + 7 ≤ length (drop at s)
-        whole = rw dc-at at (fault-room y (drop at s) (fault-at ∙ f))
+        whole : dc + 7 ≤ length rest
+        whole = rw dc-at at (fault-room y rest (fault-at ∙ f))
 
-        size-at : bytesOf (packetOfBytes (drop at s)) ≡ dc + 7
+        size-at : bytesOf (packetOfBytes rest) ≡ dc + 7
         size-at =
             let a = whole in
-            let b = length-drop 6 (drop at s) in
+            let b = length-drop 6 rest in
             let c = dc-at in
-            ap (λ (m : ℕ). m + 7) (length-take-le (getD (drop at s) 5 0) (drop 6 (drop at s)) (omega arith) ∙ dc-at)
+            ap (λ (m : ℕ). m + 7) (length-take-le (getD rest 5 0) (drop 6 rest) (omega arith) ∙ dc-at)
 
-        pub at-next : validated y room s (at + (dc + 7)) (k + 1) ≡ validated y room s at k
+        pub at-next : validated y room (take end us) (at + (dc + 7)) (k + 1) ≡ validated y room (take end us) at k
         unfolding validated
-        at-next =
-            rw (one-packet, f, code-also at k (packetOfBytes (drop at s)), size-at, dc-at, drop-drop (dc + 7) at s)
+        at-next = rw (one-packet, f, code-also at k (packetOfBytes rest), size-at, dc-at, drop-drop (dc + 7) at (take end us))
 
 -- ---- what a caller learns
 
@@ -154,7 +161,7 @@ pub record Refusal (y : System) (room : ℕ) (s : List ℕ) (at k r : ℕ) : Typ
   pub number-is : (r - 1073741824) / 1024 ≡ number
   pub packet-is : (r - 1073741824) % 1024 ≡ packet
 
-module _ (y : System) (room : ℕ) (s : List ℕ) (at k : ℕ) (w : Within s at k) (r : ℕ) (e : r ≡ validated y room s at k) where
+module _ (y : System) (room : ℕ) (s : List ℕ) (at k : ℕ) (w : Within (length s) at k) (r : ℕ) (e : r ≡ validated y room s at k) where
   pub validated-listed : r < 1073741824 → Whole y room s at k r
   unfolding validated limit
   validated-listed h = go (packetsIn (stringRow y room) (512 - k) k (drop at s)) refl (bounded y room (512 - k) k (drop at s)) e

@@ -22,7 +22,7 @@ unfoldable pub validated : System → ℕ → List ℕ → ℕ → ℕ → ℕ
 validated y room s at k = codeOf at k (packetsIn (stringRow y room) (limit - k) k (drop at s))
 
 -- no more bytes than a frame's user bytes, a place of the string, a packet that there may be
-pub record Within (s : List ℕ) (at k : ℕ) : Type 0 where
-  pub short : length s ≤ 9360
-  pub place : at ≤ length s
+pub record Within (end at k : ℕ) : Type 0 where
+  pub short : end ≤ 9360
+  pub place : at ≤ end
   pub packet : k ≤ limit

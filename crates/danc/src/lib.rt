@@ -9,7 +9,7 @@ ghost use mathlib.Core.Path.{_≡_};
 ghost use mathlib.Core.Bool.{cond};
 ghost use Prim.Native.Nat.{_+_, _*_, _/_, _%_, _≤_, _<_};
 ghost use lib.Dec.{eqb};
-ghost use lib.ListN.{length, getD};
+ghost use lib.ListN.{length, getD, take};
 ghost use Rattle.rules.specs.Base.{allIs, sum};
 ghost use Rattle.rules.specs.Systems.{System};
 ghost use Rattle.rules.specs.Reading.{flagsOf, lineFault, bytesFault, stringFault, stringEnds};
@@ -184,38 +184,41 @@ fn refusal(number: u64, packet: usize) -> usize
 }
 
 // "A string is nothing, or one packet and then a string that is shorter by that packet": the bytes left fall at each call. At a
-// packet boundary the end is tested, then 5, 14, 15, 16.
-fn packets_from(last: Line, room: usize, s: &[u8], at: usize, k: usize) -> usize
-    requires { ⌜ Within (now s) at k ⌝ }
-    ensures { λ r. ⌜ ((y : System) → y .last ≡ last .0 → r ≡ validated y room (now (s .entry)) at k) ⌝ }
+// packet boundary the end is tested, then 5, 14, 15, 16. Over an array, and with a number as answer, the calls become a loop.
+fn packets_from(last: Line, room: usize, us: &[u8; 9360], end: usize, at: usize, k: usize) -> usize
+    requires { ⌜ (length (now us) ≡ 9360) × Within end at k ⌝ }
+    ensures { λ r. ⌜ ((y : System) → y .last ≡ last .0 → r ≡ validated y room (take end (now (us .entry))) at k) ⌝ }
 {
-    if ends(room, &s[at..]) {
+    let s = &us[..];
+    if ends(room, &s[at..end]) {
         return k + 1024 * at;
     }
     if k == LIMIT {
         return refusal(5, k);
     }
-    let number = fault(last, &s[at..]);
+    let number = fault(last, &s[at..end]);
     if number != 0 {
         return refusal(number, k);
     }
-    let size = wide(s[at + 5]) + 7;
-    packets_from(last, room, s, at + size, k + 1)
+    let size = wide(us[at + 5]) + 7;
+    packets_from(last, room, us, end, at + size, k + 1)
 }
 
-// The string from place `at` on, where packet k begins: the packets with those before it, and 1,024 times the place where the last
-// ends; or from `REFUSED` on a refusal. Out of the bounds of a frame nothing is read, so that no sum can wrap.
-pub fn validate(last: Line, room: usize, s: &[u8], at: usize, k: usize) -> usize
-    ensures { λ r. ⌜ ((y : System) → y .last ≡ last .0 → Within (now (s .entry)) at k → r ≡ validated y room (now (s .entry)) at k) ⌝ }
+// The string that ends at `end`, from place `at` on, where packet k begins: the packets with those before it, and 1,024 times the place
+// where the last ends; or from `REFUSED` on a refusal. Out of the bounds of a frame nothing is read, so that no sum can wrap.
+pub fn validate(last: Line, room: usize, us: &[u8; 9360], end: usize, at: usize, k: usize) -> usize
+    ensures { λ r. ⌜ ((y : System) → y .last ≡ last .0 → Within end at k → r ≡ validated y room (take end (now (us .entry))) at k) ⌝ }
 {
-    if LONGEST < s.len() {
+    // lent whole, which tells the proof its length
+    let whole = &us[..];
+    if LONGEST < end {
         return REFUSED;
     }
-    if s.len() < at {
+    if end < at {
         return REFUSED;
     }
     if LIMIT < k {
         return REFUSED;
     }
-    packets_from(last, room, s, at, k)
+    packets_from(last, room, us, end, at, k)
 }

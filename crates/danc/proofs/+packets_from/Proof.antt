@@ -2,12 +2,11 @@
 use Prim.Native.Nat.{ℕ, _-_, _<_}
 use mathlib.Core.Path.{refl, sym, _∙_}
 use native.Mathlib.Omega.{arith}
-use lib.ListN.{length}
 use borrow.Author.Needs.{needs}
 use borrow.Fn.Kinds.{In}
 use borrow.Fn.PlainCycle.{Measures, is, falls, and}
 use Rattle.rules.specs.Sheet.{limit}
-use Rattle.danc.proofs.Laws.{lastOnly, part-room}
+use Rattle.danc.proofs.Laws.{lastOnly, run-room}
 use Rattle.danc.proofs.Validation.{is-small, at-end, at-limit, at-fault, at-next}
 use Rattle.danc.proofs.packets_from.Reads as packets-from
 use Rattle.danc.proofs.packets_from.Kinds as packets-from-kinds
@@ -20,7 +19,7 @@ use Rattle.danc.proofs.+packets_from.{statement}
 use Rattle.danc.proofs.+packets_from.Tie.{close}
 
 abbrev left : Measures 1 packets-from-kinds.ps ℕ
-left κs a = length (a .1 .1 .0 .now) - a .1 .1 .1 .0
+left κs a = a .1 .1 .1 .0 - a .1 .1 .1 .1 .0
 
 abbrev here : ℕ → In 1 packets-from-kinds.ps
 here t = and 1 packets-from-kinds.ps (is 1 packets-from-kinds.ps left t) packets-from.Pre
@@ -35,19 +34,22 @@ unfolding limit
     (ends.Asked, ends.Learnt, refusal.Asked, refusal.Learnt, fault.Asked, fault.Learnt, wide.Asked, wide.Learnt, below t, packets-from.Post)
     (here t)
     packets-from.Post
-    (λ c. search needs)
-    (λ c. search needs)
-    (λ c. search needs)
+    (λ c. omega (arith, c .before .pre .1 .1 .place))
+    (λ c. omega (arith, c .before .pre .1 .1 .place))
+    (λ c. omega (arith, c .before .pre .1 .1 .short))
     (λ c κs. search needs)
-    (λ c. search needs)
+    (λ c. omega (arith, c .before .before .before .before .pre .1 .1 .place))
     (λ c. search needs)
     -- the end
-    (λ c y e. at-end y _ _ _ _ (sym (c .if1 .taken) ∙ c .before .ends .ensures))
+    (λ c y e.
+    let a = c .before .before .before .before .args in
+    at-end y _ (a .us .now) (a .end) (a .at) _ (sym (c .if1 .taken) ∙ c .before .ends .ensures))
     (λ c κs. search needs)
     -- 5
     (λ c y e.
     let b = c .before .before in
-    c .refusal .ensures ∙ at-limit y _ _ _ _ (sym (b .if1 .left) ∙ b .before .ends .ensures) (c .before .if2 .taken))
+    let a = b .before .before .before .before .args in
+    c .refusal .ensures ∙ at-limit y _ (a .us .now) (a .end) (a .at) _ (sym (b .if1 .left) ∙ b .before .ends .ensures) (c .before .if2 .taken))
     (λ c. search needs)
     (λ c. search needs)
     (λ c. search needs)
@@ -57,30 +59,37 @@ unfolding limit
     (λ c y e.
     let f = c .before .before in
     let b = f .before .before .before in
+    let s = b .before .before .before .before in
+    let a = s .args in
     c .refusal2 .ensures
-    ∙ at-fault y _ _ _ _ (sym (b .if1 .left) ∙ b .before .ends .ensures) (b .before .before .before .before .pre .1 .packet) (f .before .before .if2 .left) _
-    (f .fault .ensures y e) (c .before .if3 .taken))
+    ∙ at-fault y _ (a .us .now) (a .end) (a .at) _ (sym (b .if1 .left) ∙ b .before .ends .ensures) (s .pre .1 .1 .packet)
+    (f .before .before .if2 .left) _ (f .fault .ensures y e) (c .before .if3 .taken))
     (λ c. search needs)
     (λ c.
-    let f = c .before .before in
+    let f = c .before in
     let s = f .before .before .before .before .before .before .before in
-    omega (arith, part-room (lastOnly _) (s .args .s .now) (s .args .at) _ (f .fault .ensures (lastOnly _) refl) (c .before .if3 .left)))
+    let r = run-room (lastOnly _) (s .args .us .now) (s .args .end) (s .args .at) _ (f .fault .ensures (lastOnly _) refl) (c .if3 .left) in
+    omega (arith, s .pre .1 .1 .short))
     (λ c κs. search needs)
     (λ c. search needs)
     (λ c.
     let f = c .before .before .before in
     let s = f .before .before .before .before .before .before .before in
-    omega (arith, part-room (lastOnly _) (s .args .s .now) (s .args .at) _ (f .fault .ensures (lastOnly _) refl) (c .before .before .if3 .left)))
+    let r = run-room (lastOnly _) (s .args .us .now) (s .args .end) (s .args .at) _ (f .fault .ensures (lastOnly _) refl) (c .before .before .if3 .left) in
+    omega (arith, s .pre .1 .1 .short))
     (λ c. search needs)
     (λ c κs.
     let f = c .before .before .before in
     let s = f .before .before .before .before .before .before .before in
-    let r = part-room (lastOnly _) (s .args .s .now) (s .args .at) _ (f .fault .ensures (lastOnly _) refl) (c .before .before .if3 .left) in
-    (omega arith, record { short = s .pre .1 .short; place = omega arith; packet = omega arith }))
+    let w = s .pre .1 .1 in
+    let r = run-room (lastOnly _) (s .args .us .now) (s .args .end) (s .args .at) _ (f .fault .ensures (lastOnly _) refl) (c .before .before .if3 .left) in
+    (omega arith, (s .pre .1 .0, record { short = w .short; place = omega arith; packet = omega (arith, w .packet) })))
     -- one packet, and the string behind it
     (λ c y e.
     let f = c .before .before .before .before in
     let b = f .before .before .before in
+    let s = b .before .before .before .before in
+    let a = s .args in
     c .packets-from .ensures y e
-    ∙ at-next y _ _ _ _ (sym (b .if1 .left) ∙ b .before .ends .ensures) (b .before .before .before .before .pre .1 .packet) (f .before .before .if2 .left) _
-    (f .fault .ensures y e) (c .before .before .before .if3 .left) _ (c .before .wide .ensures .0))
+    ∙ at-next y _ (a .us .now) (a .end) (a .at) _ (sym (b .if1 .left) ∙ b .before .ends .ensures) (s .pre .1 .1 .packet)
+    (f .before .before .if2 .left) _ (f .fault .ensures y e) (c .before .before .before .if3 .left) _ (c .before .wide .ensures .0))
