@@ -5,14 +5,14 @@
 -- Assumes nothing.
 use Prim.Native.Nat.{ℕ, zero, suc, _+_, _-_, _*_, _/_, _%_, _≤_, _<_}
 use mathlib.Core.Path.{_≡_, refl, sym, ap, ap₂, _∙_}
-use mathlib.Core.Bool.{cond}
+use mathlib.Core.Bool.{Bool, true, false, cond}
 use mathlib.Core.List.{List, [], _∷_, _++_, map, map-append, append-assoc}
 use native.Mathlib.Omega.{arith}
 use native.Mathlib.Numerals.{add-one}
-use lib.Dec.{eqb}
+use lib.Dec.{eqb, ltb}
 use lib.ListN.{length, getD, take, drop, set, length-append, length-drop, length-map, drop-of-length-le, List·getD-eq-default}
 use lib.Seq.{sets, sets-eq, getD-drop, drop-cons, drop-drop, take-at, drop-at}
-use borrow.Author.Tests.{leb-true}
+use borrow.Author.Tests.{leb-true, ltb-true, ltb-false, lt-ltb, le-ltb}
 use Rattle.rules.specs.Base.{sum, joined, All, one}
 use Rattle.rules.specs.Systems.{System, stands}
 use Rattle.rules.specs.Packet.{Packet, body, word, words, coded, checkOf, Sound}
@@ -128,23 +128,30 @@ unfolding packetFives
 starter-laid us s at h0 h1 n e =
     rw e (sym (sets-append (0xE1 ∷ 0xFF ∷ h0 ∷ h1 ∷ 0xFF ∷ []) (flat (carriers ((length s + 3) / 4) s)) us at))
 
--- the stores of a packet, one run after the other
-module _ (ws us : List ℕ) (at h0 h1 : ℕ) {us₁ us₂ : List ℕ} (starter : us₁ ≡ sets us at (0xE1 ∷ 0xFF ∷ h0 ∷ h1 ∷ 0xFF ∷ []))
-    (full : us₂ ≡ sets us₁ (at + 5) (flat (carriers (length ws / 4) (map low ws)))) where
-  begun : us₂ ≡ sets (sets us at (0xE1 ∷ 0xFF ∷ h0 ∷ h1 ∷ 0xFF ∷ [])) (at + 5) (flat (carriers (length ws / 4) (map low ws)))
-  begun = full ∙ ap (λ (t : List ℕ). sets t (at + 5) (flat (carriers (length ws / 4) (map low ws)))) starter
+-- of four or more words, n in all, one stands at place k of the last carrier where the rest is more than k
+pub rest-reaches : (n k : ℕ) → 4 ≤ n → ltb (4 * ((n - 4) / 4 + 1) + k) n ≡ ltb k ((n - 4) % 4)
+rest-reaches n k many = go (ltb k ((n - 4) % 4)) refl
+  where
+    go : (b : Bool) → ltb k ((n - 4) % 4) ≡ b → ltb (4 * ((n - 4) / 4 + 1) + k) n ≡ b
+    go true e = let h = ltb-true k ((n - 4) % 4) e in lt-ltb (4 * ((n - 4) / 4 + 1) + k) n (omega arith)
+    go false e = let h = ltb-false k ((n - 4) % 4) e in le-ltb (4 * ((n - 4) / 4 + 1) + k) n (omega arith)
+
+-- the stores of a packet, one run after the other, where n carriers are full
+module _ (ws us : List ℕ) (at h0 h1 n : ℕ) {us₁ us₂ : List ℕ} (starter : us₁ ≡ sets us at (0xE1 ∷ 0xFF ∷ h0 ∷ h1 ∷ 0xFF ∷ []))
+    (full : us₂ ≡ sets us₁ (at + 5) (flat (carriers n (map low ws)))) where
+  begun : us₂ ≡ sets (sets us at (0xE1 ∷ 0xFF ∷ h0 ∷ h1 ∷ 0xFF ∷ [])) (at + 5) (flat (carriers n (map low ws)))
+  begun = full ∙ ap (λ (t : List ℕ). sets t (at + 5) (flat (carriers n (map low ws)))) starter
 
   -- all carriers are full
-  pub packet-full : length ws ≤ 4 * (length ws / 4) → us₂ ≡ sets us at (flat (packetFives h0 h1 (map low ws)))
-  packet-full h = let l = length-map ws low in begun ∙ starter-laid us (map low ws) at h0 h1 (length ws / 4) (omega arith)
+  pub packet-full : length ws ≡ 4 * n → us₂ ≡ sets us at (flat (packetFives h0 h1 (map low ws)))
+  packet-full h = let l = length-map ws low in begun ∙ starter-laid us (map low ws) at h0 h1 n (omega arith)
 
   -- one more carrier for one to three bytes
-  pub packet-rest : {us₃ : List ℕ} {a b c : ℕ} → 4 * (length ws / 4) < length ws → a ≡ low (getD ws (4 * (length ws / 4)) 0)
-      → b ≡ getD (map low ws) (4 * (length ws / 4) + 1) 0xFF → c ≡ getD (map low ws) (4 * (length ws / 4) + 2) 0xFF
-      → us₃ ≡ sets us₂ (at + 5 + 5 * (length ws / 4)) (0xE2 ∷ a ∷ b ∷ c ∷ 0xFF ∷ []) → us₃ ≡ sets us at (flat (packetFives h0 h1 (map low ws)))
-  packet-rest {us₃} {a} {b} {c} h ea eb ec e =
+  pub packet-rest : {us₃ : List ℕ} {a b c : ℕ} → 4 * n < length ws → length ws < 4 * n + 4 → a ≡ low (getD ws (4 * n) 0)
+      → b ≡ getD (map low ws) (4 * n + 1) 0xFF → c ≡ getD (map low ws) (4 * n + 2) 0xFF
+      → us₃ ≡ sets us₂ (at + 5 + 5 * n) (0xE2 ∷ a ∷ b ∷ c ∷ 0xFF ∷ []) → us₃ ≡ sets us at (flat (packetFives h0 h1 (map low ws)))
+  packet-rest {us₃} {a} {b} {c} h k ea eb ec e =
       let l = length-map ws low in
-      let n : ℕ = length ws / 4 in
       e
       ∙ ap (λ (t : List ℕ). sets t (at + 5 + 5 * n) (0xE2 ∷ a ∷ b ∷ c ∷ 0xFF ∷ [])) begun
       ∙ carrier-laid (sets us at (0xE1 ∷ 0xFF ∷ h0 ∷ h1 ∷ 0xFF ∷ [])) (map low ws) (at + 5) n a b c 0xFF

@@ -6,6 +6,7 @@ use frame::Line;
 ghost use Prim.Native.Nat.{_+_, _*_, _/_, _≤_};
 ghost use mathlib.Core.Path.{_≡_};
 ghost use mathlib.Core.List.{[], _∷_, map};
+ghost use lib.Dec.{ltb};
 ghost use lib.ListN.{length, getD};
 ghost use lib.Seq.{sets};
 ghost use Rattle.rules.specs.Laying.{low};
@@ -70,33 +71,38 @@ fn lay_carriers(ws: &[u16], full: usize, us: &mut [u8; 9360], at: usize)
     }
 }
 
-// A carrier has four further bytes: a word's low byte, or an unused one where no word is left.
-fn low_or_unused(ws: &[u16], i: usize) -> u8
+// A carrier has four further bytes: a word's low byte, or an unused one where no word is left. `is` says whether word i is there:
+// the caller has counted them.
+fn low_or_unused(ws: &[u16], i: usize, is: bool) -> u8
+    requires { ⌜ ltb i (length (now ws)) ≡ is ⌝ }
     ensures { λ r. ⌜ r ≡ getD (map low (now (ws .entry))) i 0xFF ⌝ }
 {
-    if i < ws.len() {
+    if is {
         return low(ws[i]);
     }
     UNUSED
 }
 
-// "A starter pack is E1h, a reserved byte, and the three header bytes", and carriers for the words behind the flag (001, figure 7).
+// "A starter pack is E1h, a reserved byte, and the three header bytes", and carriers for the words behind the flag (001, figure 7): DID,
+// SDID, DC, the user words and CS. The carriers are counted from DC, so that the compiler sees that one at least is full.
 fn lay_packet(ws: &[u16], h0: u8, h1: u8, us: &mut [u8; 9360], at: usize)
-    requires { ⌜ at + 5 + 5 * ((length (now ws) + 3) / 4) ≤ 9360 ⌝ }
+    requires { ⌜ (4 ≤ length (now ws)) × (at + 5 + 5 * ((length (now ws) + 3) / 4) ≤ 9360) ⌝ }
     ensures { λ _. ⌜ now (us .exit) ≡ sets (now (us .entry)) at (flat (packetFives h0 h1 (map low (now (ws .entry))))) ⌝ }
 {
     put_five(us, at, STARTER, RESERVED, h0, h1, RESERVED);
-    let full = ws.len() / 4;
+    let dc = ws.len() - 4;
+    let full = dc / 4 + 1;
     let f = 4 * full;
     lay_carriers(ws, full, us, at + 5);
-    if f < ws.len() {
+    let rest = dc % 4;
+    if rest != 0 {
         put_five(
             us,
             at + 5 + 5 * full,
             CARRIER,
             low(ws[f]),
-            low_or_unused(ws, f + 1),
-            low_or_unused(ws, f + 2),
+            low_or_unused(ws, f + 1, 1 < rest),
+            low_or_unused(ws, f + 2, 2 < rest),
             UNUSED,
         );
     }

@@ -79,7 +79,7 @@ head1-requires : tie.Need-head1-requires Inv-loop μ-loop
 head1-requires c κs = search needs
 
 lay-packet-requires : tie.Need-lay-packet-requires Inv-loop μ-loop
-lay-packet-requires c κs = search needs
+lay-packet-requires c κs = let h = c .before .before .before .before .before .before .before .before .end-of .ensures .after (omega arith) in search needs
 
 add-k : tie.Need-add-k Inv-loop μ-loop
 add-k c = search needs
