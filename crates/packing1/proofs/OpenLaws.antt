@@ -1,7 +1,7 @@
 -- Laws of opening packs of 5.
 --
--- In order: fill; bytes that are written and bytes that are kept; packs in a run of bytes; their order (13); carriers; the packs of a
--- packet (14).
+-- In order: bytes that are written and bytes that are kept; packs in a run of bytes; their order (13); carriers; the packs of a packet
+-- (14).
 -- Assumes nothing.
 use Prim.Native.Nat.{ℕ, zero, suc, _+_, _-_, _*_, _/_, _%_, _≤_, _<_}
 use mathlib.Core.Path.{_≡_, refl, sym, ap, ap₂, _∙_, subst}
@@ -9,11 +9,10 @@ use mathlib.Core.Bool.{Bool, true, false, cond, _&&_, _||_}
 use mathlib.Core.List.{List, [], _∷_, _++_, append-nil, append-assoc}
 use native.Mathlib.Omega.{arith}
 use native.Mathlib.Numerals.{add-one, add-two, add-three, add-four, add-five, add-six, add-seven}
-use lib.Bits.{bitAnd, and-comm, and-le-l, and-mask}
 use lib.Dec.{eqb, leb}
-use lib.ListN.{length, getD, take, drop, set, length-append, length-drop, length-map, drop-of-length-le}
+use lib.ListN.{length, getD, take, drop, set, length-append, length-drop, length-map}
 use lib.Seq.{drop-cons, length-take-le, take-length, take-at, take-take, take-append-add, drop-append-add, getD-append-add, getD-take, drop-drop, sets, length-sets}
-use borrow.Author.Tests.{eqb-true, eqb-false, eq-eqb, ne-eqb, le-ltb, leb-true}
+use borrow.Author.Tests.{eqb-true, eq-eqb, ne-eqb, le-ltb, leb-true}
 use Rattle.rules.specs.Base.{allIs, All, none, one, Bytes}
 use Rattle.rules.specs.Systems.{System}
 use Rattle.rules.specs.Packet.{Packet}
@@ -27,36 +26,6 @@ use Rattle.rules.proofs.Strings.{danc-length, itemOf, bytes-laid, string-room}
 use Rattle.rules.proofs.Packs.{flat-fives, flat-length, lead-within}
 use Rattle.danc.proofs.Validation.{fault-small}
 use Rattle.packing1.specs.Open.{packsAt, Within, used, orderFrom, SameOrder, fits, PacksEnd, allCarriers, Moved, CarriersOpened, PacketOpened, codeOf, Opens, packetsFrom, packetsOfFives}
-
--- ---- fill
-
--- two bytes have all bits in common only where both have all bits
-and-full : (t x : ℕ) → t < 256 → x < 256 → eqb (bitAnd t x) 0xFF ≡ (eqb t 0xFF && eqb x 0xFF)
-and-full t x h k = go (eqb t 0xFF) refl
-  where
-    go : (b : Bool) → eqb t 0xFF ≡ b → eqb (bitAnd t x) 0xFF ≡ (b && eqb x 0xFF)
-    go true e =
-        let m : bitAnd t x ≡ x % 256 = and-comm t x ∙ ap (bitAnd x) (eqb-true t 0xFF e) ∙ and-mask x 8 in
-        let n : x % 256 ≡ x = omega arith in
-        ap (λ (v : ℕ). eqb v 0xFF) (m ∙ n)
-    go false e = ne-eqb (bitAnd t x) 0xFF (λ q. eqb-false t 0xFF e (let l = and-le-l t x in omega arith))
-
-regroup : (a b c : Bool) → ((a && b) && c) ≡ (a && (b && c))
-regroup true b c = refl
-regroup false b c = refl
-
--- one byte more
-pub fill-more : (t i : ℕ) (s : List ℕ) → t < 256 → getD s i 0 < 256 → i < length s
-    → (eqb t 0xFF && allIs 0xFF (drop i s)) ≡ allIs 0xFF s → (eqb (bitAnd t (getD s i 0)) 0xFF && allIs 0xFF (drop (i + 1) s)) ≡ allIs 0xFF s
-fill-more t i s h k l inv =
-    rw (and-full t (getD s i 0) h k, add-one i, regroup (eqb t 0xFF) (eqb (getD s i 0) 0xFF) (allIs 0xFF (drop (suc i) s))) (rw (drop-cons s i 0 l) at inv)
-
-pub fill-done : (t i : ℕ) (s : List ℕ) → length s ≤ i → (eqb t 0xFF && allIs 0xFF (drop i s)) ≡ allIs 0xFF s → eqb t 0xFF ≡ allIs 0xFF s
-fill-done t i s h inv = go (eqb t 0xFF) (rw (drop-of-length-le s h) at inv)
-  where
-    go : (b : Bool) → (b && true) ≡ allIs 0xFF s → b ≡ allIs 0xFF s
-    go true e = e
-    go false e = e
 
 -- ---- bytes that are written and bytes that are kept
 
