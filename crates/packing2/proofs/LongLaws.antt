@@ -210,7 +210,7 @@ row-laid f₁ f₂ f₃ f₄ f₅ f₆ =
 roomy-first : Roomy (replicate 8 75 ++ replicate 8 45)
 roomy-first = all-append _ (replicate 8 75) (replicate 8 45) (roomy-even 75 (omega arith) 8) (roomy-even 45 (omega arith) 8)
 
-roomy-row : Roomy rowSizes
+pub roomy-row : Roomy rowSizes
 roomy-row = all-append _ (replicate 8 75 ++ replicate 8 45) (replicate 8 75) roomy-first (roomy-even 75 (omega arith) 8)
 
 roomy-rows : (k : ℕ) → Roomy (rowsSizes k)
@@ -218,11 +218,11 @@ roomy-rows zero = none
 roomy-rows (suc k) = all-append _ rowSizes (rowsSizes k) roomy-row (roomy-rows k)
 
 -- what so many rows hold
-sum-rows : (k : ℕ) → sum (rowsSizes k) ≡ 1560 * k
+pub sum-rows : (k : ℕ) → sum (rowsSizes k) ≡ 1560 * k
 sum-rows zero = refl
 sum-rows (suc k) = let e = sum-rows k in omega arith
 
-room-rows : (k : ℕ) → stringRoom (rowsSizes k) ≡ 1488 * k
+pub room-rows : (k : ℕ) → stringRoom (rowsSizes k) ≡ 1488 * k
 room-rows zero = refl
 room-rows (suc k) = let e = room-rows k in omega arith
 

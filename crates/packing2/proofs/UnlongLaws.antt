@@ -1,25 +1,27 @@
 -- Long packs as the code opens them.
 --
--- In order: lists; bytes through a local array; packs by number; a pack opened; the answer; the answer read; the loop over packs.
+-- In order: lists; bytes through a local array; packs by number; a pack opened; whole rows; the answer; the answer read; the loop over
+-- packs.
 -- Assumes nothing.
 use Prim.Native.Nat.{ℕ, zero, suc, _+_, _-_, _*_, _/_, _%_, _≤_, _<_}
-use mathlib.Core.Path.{_≡_, refl, sym, ap, ap₂, _∙_, subst}
+use mathlib.Core.Path.{_≡_, refl, sym, ap, _∙_, subst}
 use mathlib.Core.Logic.{_⊎_, inl, inr, ⊎-elim}
-use mathlib.Core.Bool.{Bool, true, false, cond}
+use mathlib.Core.Bool.{Bool, true, false, cond, _&&_, and-true, and-assoc}
 use mathlib.Core.List.{List, [], _∷_, _++_, append-assoc, append-nil}
 use native.Mathlib.Nat.{add-zero, zero-add}
 use native.Mathlib.Numerals.{add-one}
 use native.Mathlib.Omega.{arith}
 use lib.Dec.{eqb, ltb}
-use lib.ListN.{length, getD, take, drop, set, length-append, length-take, length-drop, drop-of-length-le}
+use lib.ListN.{length, getD, take, drop, set, replicate, length-drop, drop-of-length-le}
 use lib.Seq.{sets, length-sets, paste-suc, getD-take, getD-drop, drop-drop, take-take, length-take-le}
 use borrow.Author.Tests.{lt-ltb, le-ltb, eq-eqb, ne-eqb}
-use Rattle.rules.specs.Base.{allIs, sum}
-use Rattle.rules.specs.Systems.{system, hd1080-60i, hd1080-50i, hd720-60p}
-use Rattle.rules.specs.Blocks.{shift, width, runs, blockSizes}
+use Rattle.rules.specs.Base.{allIs, sum, one}
 use Rattle.rules.specs.Packing2.{Opened, opened, shut, onto, openPack, openLong, stringRoom}
-use Rattle.rules.proofs.Basics.{never, drop-take, sets-front, sets-behind}
-use Rattle.packing2.specs.Unlong.{openedFrom, openedCode, Pulled, roomAt, after, sizesFrom}
+use Rattle.rules.proofs.Basics.{never, both, drop-take, sets-front, sets-behind}
+use Rattle.rules.proofs.Long.{Roomy}
+use Rattle.packing2.specs.Long.{rowsOf, rowSizes, rowsSizes}
+use Rattle.packing2.specs.Unlong.{openedFrom, openedCode, Pulled, roomAt, after, sizesFrom, openedOn, goOn, pulledDown}
+use Rattle.packing2.proofs.LongLaws.{sizes-rows, sum-rows, room-rows, roomy-row}
 
 -- ---- lists
 
@@ -69,32 +71,10 @@ room-middle k g h = rw (le-ltb k 8 g, lt-ltb k 16 h)
 pub room-high : (k : ℕ) → 16 ≤ k → roomAt k ≡ 72
 room-high k g = rw (le-ltb k 8 (omega arith), le-ltb k 16 g)
 
--- the blocks of a frame by number
-packsOf : ℕ → ℕ
-packsOf sys = 12 * system sys .sequences
-
-sizes-by-number : (sys : ℕ) → blockSizes (system sys) ≡ sizesFrom 0 (packsOf sys)
-unfolding packsOf system runs shift width
-sizes-by-number sys = go (eqb sys 1) (eqb sys 2) (eqb sys 3)
-  where
-    go : (a b c : Bool) → blockSizes (cond a hd1080-60i (cond b hd1080-50i (cond c hd720-60p (record { sequences = 0; last = 0 }))))
-        ≡ sizesFrom 0 (12 * cond a hd1080-60i (cond b hd1080-50i (cond c hd720-60p (record { sequences = 0; last = 0 }))) .sequences)
-    go true b c = refl
-    go false true c = refl
-    go false false true = refl
-    go false false false = refl
-
--- no frame has more room
-room-most : (sys : ℕ) → stringRoom (sizesFrom 0 (packsOf sys)) ≤ 8928
-unfolding packsOf system
-room-most sys = go (eqb sys 1) (eqb sys 2) (eqb sys 3)
-  where
-    go : (a b c : Bool)
-        → stringRoom (sizesFrom 0 (12 * cond a hd1080-60i (cond b hd1080-50i (cond c hd720-60p (record { sequences = 0; last = 0 }))) .sequences)) ≤ 8928
-    go true b c = omega arith
-    go false true c = omega arith
-    go false false true = omega arith
-    go false false false = omega arith
+-- the packs of so many rows, by number
+sizes-by-number : (rows : ℕ) → sizesFrom 0 (length (rowsSizes rows)) ≡ rowsSizes rows
+sizes-by-number zero = refl
+sizes-by-number (suc rows) = ap (λ (ns : List ℕ). rowSizes ++ ns) (sizes-by-number rows)
 
 -- ---- a pack opened
 
@@ -118,66 +98,146 @@ onto-none (opened t d) = refl
 
 -- the pack at `at`, from what the code holds: the buffer `us` has the first `len` string bytes at its start, and from `at` on still
 -- the user bytes
-module _ (ns us₀ us : List ℕ) (room total at len : ℕ) (fits : at + (room + 3 + sum ns) ≡ total) (within : total ≤ length us)
-    (low : len ≤ at) (same : drop at us ≡ drop at us₀) where
-  -- what is behind the place is as it was
-  kept : (n : ℕ) → drop (at + n) us ≡ drop (at + n) us₀
-  kept n = sym (drop-drop n at us) ∙ ap (drop n) same ∙ drop-drop n at us₀
-
+module _ (n : ℕ) (ns us : List ℕ) (total at len : ℕ) (roomy : 3 ≤ n) (fits : at + (n + sum ns) ≡ total) (within : total ≤ length us)
+    (low : len ≤ at) where
   -- a byte of the pack
-  byte-at : (j : ℕ) → j < 3 → getD (drop at (take total us₀)) j 0 ≡ getD us (at + j) 0
-  byte-at j h =
-      getD-drop at (take total us₀) j 0
-      ∙ getD-take total us₀ (at + j) 0 (omega arith)
-      ∙ sym (getD-drop at us₀ j 0)
-      ∙ ap (λ (s : List ℕ). getD s j 0) (sym same)
-      ∙ getD-drop at us j 0
+  byte-at : (j : ℕ) → j < 3 → getD (drop at (take total us)) j 0 ≡ getD us (at + j) 0
+  byte-at j h = getD-drop at (take total us) j 0 ∙ getD-take total us (at + j) 0 (omega arith)
 
   -- its string bytes
   abbrev body : List ℕ
-  body = take room (drop (at + 3) us)
+  body = take (n - 3) (drop (at + 3) us)
 
-  body-at : take room (drop 3 (drop at (take total us₀))) ≡ body
-  body-at =
-      ap (take room) (drop-drop 3 at (take total us₀))
-      ∙ part-take (at + 3) room total us₀ (omega arith)
-      ∙ ap (take room) (sym (kept 3))
+  body-at : take (n - 3) (drop 3 (drop at (take total us))) ≡ body
+  body-at = ap (take (n - 3)) (drop-drop 3 at (take total us)) ∙ part-take (at + 3) (n - 3) total us (omega arith)
 
-  body-length : length body ≡ room
-  body-length = length-take-le room (drop (at + 3) us) (simp length-drop (omega arith))
+  body-length : length body ≡ n - 3
+  body-length = length-take-le (n - 3) (drop (at + 3) us) (simp length-drop (omega arith))
 
   -- the buffer with them pulled down
   abbrev pulled : List ℕ
   pulled = sets us len body
 
-  pulled-front : take (len + room) pulled ≡ take len us ++ body
-  pulled-front = sets-before body us len room body-length (omega arith)
+  pulled-front : take (len + (n - 3)) pulled ≡ take len us ++ body
+  pulled-front = sets-before body us len (n - 3) body-length (omega arith)
 
   -- the later blocks are as they were
-  pulled-later : drop (at + (3 + room)) pulled ≡ drop (at + (3 + room)) us₀
-  pulled-later = let e = body-length in sets-behind us len body (at + (3 + room)) (omega arith) ∙ kept (3 + room)
+  pulled-later : drop (at + n) pulled ≡ drop (at + n) us
+  pulled-later = let e = body-length in sets-behind us len body (at + n) (omega arith)
 
-  later-at : drop room (drop 3 (drop at (take total us₀))) ≡ drop (at + (3 + room)) (take total us₀)
+  later-at : drop (n - 3) (drop 3 (drop at (take total us))) ≡ drop (at + n) (take total pulled)
   later-at =
-      let e : at + 3 + room ≡ at + (3 + room) = omega arith in
-      rw (drop-drop 3 at (take total us₀), drop-drop room (at + 3) (take total us₀), e)
-
-  rest-at : drop (at + (3 + room)) (take total us₀) ≡ take (total - (at + (3 + room))) (drop (at + (3 + room)) pulled)
-  rest-at = drop-take (at + (3 + room)) total us₀ ∙ ap (take (total - (at + (3 + room)))) (sym pulled-later)
+      let e : at + 3 + (n - 3) ≡ at + n = omega arith in
+      rw (drop-drop 3 at (take total us), drop-drop (n - 3) (at + 3) (take total us), e, drop-take (at + n) total us, drop-take (at + n) total pulled, pulled-later)
 
   -- all that is left opens as this pack says
-  pack-opened : onto (take len us) (openLong ((room + 3) ∷ ns) (drop at (take total us₀)))
+  pack-opened : openedOn (n ∷ ns) total us at len
       ≡ openPack
       (eqb (getD us at 0) 0xE3)
       (eqb (getD us (at + 1) 0 % 2) 1)
-      (allIs 0xFF (take (total - (at + (3 + room))) (drop (at + (3 + room)) pulled)))
-      (take (len + room) pulled)
-      room
-      (openLong ns (drop (at + (3 + room)) (take total us₀)))
+      (allIs 0xFF (drop (at + n) (take total pulled)))
+      (take (len + (n - 3)) pulled)
+      (n - 3)
+      (openLong ns (drop (at + n) (take total pulled)))
   pack-opened =
-      let e : room + 3 - 3 ≡ room = omega arith in
       let z : at + 0 ≡ at = add-zero at in
-      rw (e, onto-pack, byte-at 0 (omega arith), z, byte-at 1 (omega arith), body-at, later-at, ← pulled-front, rest-at)
+      rw (onto-pack, byte-at 0 (omega arith), z, byte-at 1 (omega arith), body-at, later-at, ← pulled-front)
+
+-- ---- whole rows
+
+-- what is left of eight packs, as one and the others
+pub eight-more : (i size : ℕ) → i < 8 → replicate (8 - i) size ≡ size ∷ replicate (8 - (i + 1)) size
+eight-more i size h = let e : 8 - i ≡ suc (8 - (i + 1)) = omega arith in rw e
+
+-- a turn of the loop that tests eight
+pub test-turn : (ok : Bool) (us : List ℕ) (f i size : ℕ) → i < 8
+    → (((ok && eqb (getD us f 0) 0xE3) && eqb (getD us (f + 1) 0 % 2) 1) && goOn (replicate (8 - (i + 1)) size) (drop (f + size) us))
+    ≡ (ok && goOn (replicate (8 - i) size) (drop f us))
+unfolding goOn
+test-turn ok us f i size h =
+    rw (eight-more i size h, getD-drop f us 0 0, getD-drop f us 1 0, add-zero f, drop-drop size f us) (simp and-assoc)
+
+-- none is left
+pub test-end : (ok : Bool) (ub : List ℕ) (i size : ℕ) → 8 ≤ i → (ok && goOn (replicate (8 - i) size) ub) ≡ ok
+unfolding goOn
+test-end ok ub i size h = let e : 8 - i ≡ 0 = omega arith in rw e (and-true ok)
+
+-- a turn of the loop that pulls eight down
+pub down-turn : (size i : ℕ) (us : List ℕ) (at len : ℕ) {us′ : List ℕ} {at′ len′ : ℕ} → i < 8 → us′ ≡ sets us len (take (size - 3) (drop (at + 3) us))
+    → at′ ≡ at + size → len′ ≡ len + (size - 3)
+    → pulledDown (replicate (8 - (i + 1)) size) us′ at′ len′ ≡ pulledDown (replicate (8 - i) size) us at len
+unfolding pulledDown
+down-turn size i us at len h e a l = rw (eight-more i size h, e, a, l)
+
+-- none is left
+pub down-end : (size i : ℕ) (us : List ℕ) (at len : ℕ) → 8 ≤ i → pulledDown (replicate (8 - i) size) us at len ≡ us
+unfolding pulledDown
+down-end size i us at len h = let e : 8 - i ≡ 0 = omega arith in rw e
+
+-- packs tested are the first of them, and those behind them
+on-append : (ms ns ub : List ℕ) → goOn (ms ++ ns) ub ≡ (goOn ms ub && goOn ns (drop (sum ms) ub))
+unfolding goOn
+on-append [] ns ub = refl
+on-append (n ∷ ms) ns ub = rw (on-append ms ns (drop n ub), drop-drop (sum ms) n ub) (simp and-assoc)
+
+-- those of a row
+pub row-tested : (us : List ℕ) (at : ℕ)
+    → goOn rowSizes (drop at us)
+    ≡ (goOn (replicate 8 75) (drop at us) && (goOn (replicate 8 45) (drop (at + 600) us) && goOn (replicate 8 75) (drop (at + 960) us)))
+row-tested us at =
+    rw (← drop-drop 600 at us, ← drop-drop 960 at us, ← drop-drop 360 600 (drop at us))
+    (on-append (replicate 8 75) (replicate 8 45 ++ replicate 8 75) (drop at us)
+    ∙ ap (λ (t : Bool). goOn (replicate 8 75) (drop at us) && t) (on-append (replicate 8 45) (replicate 8 75) (drop 600 (drop at us))))
+
+-- packs pulled down are so too
+down-append : (ms ns us : List ℕ) (at len : ℕ)
+    → pulledDown (ms ++ ns) us at len ≡ pulledDown ns (pulledDown ms us at len) (at + sum ms) (len + stringRoom ms)
+unfolding pulledDown
+down-append [] ns us at len = rw (add-zero at, add-zero len)
+down-append (n ∷ ms) ns us at len =
+    let a : at + n + sum ms ≡ at + (n + sum ms) = omega arith in
+    let b : len + (n - 3) + stringRoom ms ≡ len + (n - 3 + stringRoom ms) = omega arith in
+    down-append ms ns (sets us len (take (n - 3) (drop (at + 3) us))) (at + n) (len + (n - 3)) ∙ rw (a, b)
+
+-- those of a row
+pub row-down : (us : List ℕ) (at len : ℕ) {us₁ us₂ us₃ : List ℕ} → us₁ ≡ pulledDown (replicate 8 75) us at len
+    → us₂ ≡ pulledDown (replicate 8 45) us₁ (at + 600) (len + 576) → us₃ ≡ pulledDown (replicate 8 75) us₂ (at + 960) (len + 912)
+    → us₃ ≡ pulledDown rowSizes us at len
+row-down us at len {us₁} {us₂} p q r =
+    let e : at + 600 + 360 ≡ at + 960 = omega arith in
+    let d : len + 576 + 336 ≡ len + 912 = omega arith in
+    let v = down-append (replicate 8 45) (replicate 8 75) us₁ (at + 600) (len + 576) in
+    r ∙ sym (down-append (replicate 8 75) (replicate 8 45 ++ replicate 8 75) us at len ∙ rw (← p) (v ∙ rw (← q, e, d)))
+
+-- packs that go on, pulled down, leave what all open to
+opened-down : (ms ns us : List ℕ) (total at len : ℕ) → Roomy ms → at + sum (ms ++ ns) ≡ total → total ≤ length us → len ≤ at
+    → goOn ms (drop at us) ≡ true
+    → openedOn ns total (pulledDown ms us at len) (at + sum ms) (len + stringRoom ms) ≡ openedOn (ms ++ ns) total us at len
+unfolding goOn pulledDown
+opened-down [] ns us total at len r f w l g = rw (add-zero at, add-zero len)
+opened-down (n ∷ ms) ns us total at len (one h r) f w l g =
+    let us′ : List ℕ = sets us len (take (n - 3) (drop (at + 3) us)) in
+    let m : 3 ≤ n = omega arith in
+    let b : length us′ ≡ length us = length-sets us len (take (n - 3) (drop (at + 3) us)) in
+    let p = pack-opened n (ms ++ ns) us total at len m f w l in
+    let k = pulled-later n (ms ++ ns) us total at len m f w l in
+    let x : at + n + sum ms ≡ at + (n + sum ms) = omega arith in
+    let y : len + (n - 3) + stringRoom ms ≡ len + (n - 3 + stringRoom ms) = omega arith in
+    let s = both (eqb (getD us at 0) 0xE3) _ (rw (getD-drop at us 0 0, add-zero at, getD-drop at us 1 0, drop-drop n at us, ← k) at g) in
+    let e = both (eqb (getD us (at + 1) 0 % 2) 1) (goOn ms (drop (at + n) us′)) (s .1) in
+    rw (← x, ← y, p, s .0, e .0) (opened-down ms ns us′ total (at + n) (len + (n - 3)) r (omega arith) (omega arith) (omega arith) (e .1))
+
+-- a turn of the loop over rows: the row behind r others goes on and is pulled down
+pub row-turn : (rows r : ℕ) (us : List ℕ) {us′ : List ℕ} → r < rows → 1560 * rows ≤ length us → goOn rowSizes (drop (1560 * r) us) ≡ true
+    → us′ ≡ pulledDown rowSizes us (1560 * r) (1488 * r)
+    → openedOn (rowsSizes (rows - (r + 1))) (1560 * rows) us′ (1560 * (r + 1)) (1488 * (r + 1))
+    ≡ openedOn (rowsSizes (rows - r)) (1560 * rows) us (1560 * r) (1488 * r)
+row-turn rows r us h w g e =
+    let n : rows - r ≡ suc (rows - (r + 1)) = omega arith in
+    let s = sum-rows (rows - (r + 1)) in
+    let a : 1560 * (r + 1) ≡ 1560 * r + 1560 = omega arith in
+    let l : 1488 * (r + 1) ≡ 1488 * r + 1488 = omega arith in
+    rw (n, a, l, e) (opened-down rowSizes (rowsSizes (rows - (r + 1))) us (1560 * rows) (1560 * r) (1488 * r) roomy-row (omega arith) w (omega arith) g)
 
 -- ---- the answer
 
@@ -196,64 +256,18 @@ Answer o r us = (r ≡ openedCode o) × Pulled o us
 shut-answer : (o : Opened) (us : List ℕ) → o ≡ shut → Answer o 0 us
 shut-answer o us e = (sym (ap openedCode e), λ t d q. never (cc))
 
--- what a pack opens to is within its room and that of the later ones
-pack-within : (a b r : Bool) (s : List ℕ) (room most : ℕ) (o : Opened) (t : List ℕ) (d : ℕ) → length s ≤ room → (room ≡ 72) ⊎ (room ≡ 42)
-    → ((u : List ℕ) (c : ℕ) → o ≡ opened u c → (length u ≤ most) × ((c ≡ 72) ⊎ (c ≡ 42)))
-    → openPack a b r s room o ≡ opened t d → (length t ≤ room + most) × ((d ≡ 72) ⊎ (d ≡ 42))
-pack-within false b r s room most o t d h c later e = never (cc)
-pack-within true true r s room most shut t d h c later e = never (cc)
-pack-within true true r s room most (opened u x) t d h c later e =
-    let w = later u x refl in
-    let m : s ++ u ≡ t = cc in
-    let l : length s + length u ≡ length t = sym (length-append s u) ∙ ap length m in
-    let q : x ≡ d = cc in (omega (arith, w .0), subst (λ (n : ℕ). (n ≡ 72) ⊎ (n ≡ 42)) q (w .1))
-pack-within true false true s room most o t d h c later e =
-    let l : s ≡ t = cc in
-    let q : room ≡ d = cc in (omega (arith, ap length l), subst (λ (n : ℕ). (n ≡ 72) ⊎ (n ≡ 42)) q c)
-pack-within true false false s room most o t d h c later e = never (cc)
-
--- what packs open to is within their room
-open-within : (left k : ℕ) (ub t : List ℕ) (d : ℕ) → openLong (sizesFrom k left) ub ≡ opened t d
-    → (length t ≤ stringRoom (sizesFrom k left)) × ((d ≡ 72) ⊎ (d ≡ 42))
-open-within zero k ub t d e = never (cc)
-open-within (suc left) k ub t d e =
-    let n : ℕ = roomAt k + 3 - 3 in
-    let z : roomAt k + 3 - 3 ≡ roomAt k = omega arith in
-    let v : List ℕ = drop 3 ub in
-    let l : length (take n v) ≤ n = simp length-take (omega arith) in
-    pack-within
-    (eqb (getD ub 0 0) 0xE3)
-    (eqb (getD ub 1 0 % 2) 1)
-    (allIs 0xFF (drop n v))
-    (take n v)
-    n
-    (stringRoom (sizesFrom (after k) left))
-    (openLong (sizesFrom (after k) left) (drop n v))
-    t
-    d
-    l
-    (rw z (room-cases k))
-    (open-within left (after k) (drop n v))
-    e
-
-module _ (sys : ℕ) (us₀ : List ℕ) where
-  -- what a frame opens to is within range
-  opened-within : (t : List ℕ) (d : ℕ) → openedFrom sys us₀ ≡ opened t d → (length t ≤ 8928) × ((d ≡ 72) ⊎ (d ≡ 42))
-  opened-within t d e =
-      let ub : List ℕ = take (sum (blockSizes (system sys))) us₀ in
-      let w = open-within (packsOf sys) 0 ub t d (ap (λ (ns : List ℕ). openLong ns ub) (sym (sizes-by-number sys)) ∙ e) in
-      let m = room-most sys in (omega (arith, w .0), w .1)
-
-  -- what the last pack gives
-  last-answer : (f : Bool) (us : List ℕ) (len room r : ℕ) → openedFrom sys us₀ ≡ cond f (opened (take len us) room) shut → len ≤ length us
-      → r ≡ cond f (len * 128 + room) 0 → Answer (openedFrom sys us₀) r us
-  last-answer true us len room r e h q = (
-    q ∙ rw (e, length-take-le len us h),
-    λ t d o.
-        let s : take len us ≡ t = cc in
-        let w = opened-within t d o in (rw (← s, length-take-le len us h), w .0, w .1),
-  )
-  last-answer false us len room r e h q = rw q (shut-answer (openedFrom sys us₀) us e)
+-- what the last pack gives
+last-answer : (o : Opened) (f : Bool) (us : List ℕ) (len room r : ℕ) → o ≡ cond f (opened (take len us) room) shut → len ≤ length us → len ≤ 8928
+    → (room ≡ 72) ⊎ (room ≡ 42) → r ≡ cond f (len * 128 + room) 0 → Answer o r us
+last-answer o true us len room r e h m d q = (
+  q ∙ rw (e, length-take-le len us h),
+  λ t y p.
+      let s : take len us ≡ t = cc in
+      let z : room ≡ y = cc in
+      let l : length t ≡ len = sym (ap length s) ∙ length-take-le len us h in
+      (rw l s, omega arith, subst (λ (n : ℕ). (n ≡ 72) ⊎ (n ≡ 42)) z d),
+)
+last-answer o false us len room r e h m d q = rw q (shut-answer o us e)
 
 -- ---- the answer read: what a caller has from it
 
@@ -279,84 +293,86 @@ answer-some (opened t d) r us w z =
 -- ---- the loop over packs
 
 -- what is known at its head: the packs still to come, from the user bytes still there, put onto the string so far, are the whole
-pub record Opening (sys total : ℕ) (us₀ us : List ℕ) (at len k : ℕ) : Type 0 where
+pub record Opening (o : Opened) (total : ℕ) (us : List ℕ) (at len k : ℕ) : Type 0 where
   pub left : ℕ
   pub row : k < 24
   pub whole : at + sum (sizesFrom k left) ≡ total
   pub low : len ≤ at
-  pub same : drop at us ≡ drop at us₀
-  pub rest : onto (take len us) (openLong (sizesFrom k left) (drop at (take total us₀))) ≡ openedFrom sys us₀
+  pub most : len + stringRoom (sizesFrom k left) ≤ 8928
+  pub rest : openedOn (sizesFrom k left) total us at len ≡ o
 
-pub opening-start : (sys total : ℕ) (us : List ℕ) → total ≡ sum (blockSizes (system sys)) → Opening sys total us us 0 0 0
-opening-start sys total us e =
+-- the loop begins behind r rows
+pub opening-start : (rows r : ℕ) (us : List ℕ) → r ≤ rows → rows ≤ 6
+    → Opening (openedOn (rowsSizes (rows - r)) (1560 * rows) us (1560 * r) (1488 * r)) (1560 * rows) us (1560 * r) (1488 * r) 0
+opening-start rows r us h m =
+    let n = sizes-by-number (rows - r) in
+    let s = ap sum n ∙ sum-rows (rows - r) in
+    let t = ap stringRoom n ∙ room-rows (rows - r) in
     record {
-      left = packsOf sys;
+      left = length (rowsSizes (rows - r));
       row = omega arith;
-      whole = zero-add (sum (sizesFrom 0 (packsOf sys))) ∙ ap sum (sym (sizes-by-number sys)) ∙ sym e;
+      whole = omega arith;
       low = omega arith;
-      same = refl;
-      rest =
-          onto-none (openLong (sizesFrom 0 (packsOf sys)) (take total us))
-          ∙ ap₂ (λ (ns : List ℕ) (n : ℕ). openLong ns (take n us)) (sym (sizes-by-number sys)) e;
+      most = omega arith;
+      rest = ap (λ (ns : List ℕ). openedOn ns (1560 * rows) us (1560 * r) (1488 * r)) n;
     }
 
+-- what all rows open to is what the frame opens to
+pub frame-answer : (sys rows : ℕ) (us₀ : List ℕ) {o : Opened} {r : ℕ} {us : List ℕ} → rows ≡ rowsOf sys
+    → o ≡ openedOn (rowsSizes rows) (1560 * rows) us₀ 0 0 → Answer o r us → Answer (openedFrom sys us₀) r us
+frame-answer sys rows us₀ {r = r} {us = us} e q =
+    let f : openLong (rowsSizes rows) (take (1560 * rows) us₀) ≡ openedFrom sys us₀ = rw (sizes-rows sys, ← e, sum-rows rows) in
+    subst (λ (o : Opened). Answer o r us) (q ∙ onto-none (openLong (rowsSizes rows) (take (1560 * rows) us₀)) ∙ f)
+
 -- no pack is left, and none had END 0
-pub opening-end : {sys total : ℕ} {us₀ us : List ℕ} {at len k : ℕ} → Opening sys total us₀ us at len k → total ≤ at
-    → Answer (openedFrom sys us₀) 0 us
-opening-end {sys} {total} {us₀} {us} {at} {len} {k} w h = shut-answer (openedFrom sys us₀) us (go (w .left) (w .whole) (w .rest))
+pub opening-end : {o : Opened} {total : ℕ} {us : List ℕ} {at len k : ℕ} → Opening o total us at len k → total ≤ at → Answer o 0 us
+opening-end {o} {total} {us} {at} {len} {k} w h = shut-answer o us (go (w .left) (w .whole) (w .rest))
   where
-    go : (left : ℕ) → at + sum (sizesFrom k left) ≡ total
-        → onto (take len us) (openLong (sizesFrom k left) (drop at (take total us₀))) ≡ openedFrom sys us₀ → openedFrom sys us₀ ≡ shut
+    go : (left : ℕ) → at + sum (sizesFrom k left) ≡ total → openedOn (sizesFrom k left) total us at len ≡ o → o ≡ shut
     go zero e r = sym r
     go (suc left) e r = absurd (omega arith)
 
 -- a turn: the pack at `at` has `room` string bytes
-module _ {sys total : ℕ} {us₀ us : List ℕ} {at len k : ℕ} (w : Opening sys total us₀ us at len k) (h : at < total) (long : total ≤ length us)
+module _ {o : Opened} {total : ℕ} {us : List ℕ} {at len k : ℕ} (w : Opening o total us at len k) (h : at < total) (long : total ≤ length us)
     {room : ℕ} (is : room ≡ roomAt k) where
   -- the buffer with its string bytes pulled down
   abbrev next-us : List ℕ
   next-us = sets us len (take room (drop (at + 3) us))
 
-  -- with so many packs behind it: they fill the rest, which is as it was, and what all open to
+  -- with so many packs behind it: they fill the rest, their room, and what all open to
   abbrev Turned : ℕ → Type 0
   Turned left =
       (at + (3 + room) + sum (sizesFrom (after k) left) ≡ total)
-      × (drop (at + (3 + room)) next-us ≡ drop (at + (3 + room)) us₀)
-      × (openedFrom sys us₀
+      × (len + room + stringRoom (sizesFrom (after k) left) ≤ 8928)
+      × (o
       ≡ openPack
       (eqb (getD us at 0) 0xE3)
       (eqb (getD us (at + 1) 0 % 2) 1)
-      (allIs 0xFF (take (total - (at + (3 + room))) (drop (at + (3 + room)) next-us)))
+      (allIs 0xFF (drop (at + (3 + room)) (take total next-us)))
       (take (len + room) next-us)
       room
-      (openLong (sizesFrom (after k) left) (drop (at + (3 + room)) (take total us₀))))
+      (openLong (sizesFrom (after k) left) (drop (at + (3 + room)) (take total next-us))))
 
   turn : (left : ℕ) × Turned left
-  turn = go (w .left) (w .whole) (w .rest)
+  turn = go (w .left) (w .whole) (w .most) (w .rest)
     where
-      go : (left : ℕ) → at + sum (sizesFrom k left) ≡ total
-          → onto (take len us) (openLong (sizesFrom k left) (drop at (take total us₀))) ≡ openedFrom sys us₀ → (left : ℕ) × Turned left
-      go zero e r = absurd (omega arith)
-      go (suc left) e r =
+      go : (left : ℕ) → at + sum (sizesFrom k left) ≡ total → len + stringRoom (sizesFrom k left) ≤ 8928
+          → openedOn (sizesFrom k left) total us at len ≡ o → (left : ℕ) × Turned left
+      go zero e m r = absurd (omega arith)
+      go (suc left) e m r =
           let ns : List ℕ = sizesFrom (after k) left in
-          let f : at + (room + 3 + sum ns) ≡ total = omega arith in
-          let q : openedFrom sys us₀ ≡ onto (take len us) (openLong ((room + 3) ∷ ns) (drop at (take total us₀))) =
-          sym r ∙ ap (λ (n : ℕ). onto (take len us) (openLong ((n + 3) ∷ ns) (drop at (take total us₀)))) (sym is) in (
-            left,
-            (
-              omega arith,
-              pulled-later ns us₀ us room total at len f long (w .low) (w .same),
-              q ∙ pack-opened ns us₀ us room total at len f long (w .low) (w .same),
-            ),
-          )
+          let f : at + (3 + room + sum ns) ≡ total = omega arith in
+          let n : roomAt k + 3 ≡ 3 + room = omega arith in
+          let d : 3 + room - 3 ≡ room = omega arith in
+          (left, (omega arith, omega arith, sym r ∙ rw (n, pack-opened (3 + room) ns us total at len (omega arith) f long (w .low), d)))
 
   -- the pack lies within the user bytes
   pub turn-within : at + (3 + room) ≤ total
   turn-within = omega (arith, turn .1 .0)
 
   -- it does not begin with E3h
-  pub turn-gap : (getD us at 0 ≡ 0xE3 → ⊥) → Answer (openedFrom sys us₀) 0 us
-  turn-gap g = shut-answer (openedFrom sys us₀) us (turn .1 .2 ∙ rw (ne-eqb (getD us at 0) 0xE3 g))
+  pub turn-gap : (getD us at 0 ≡ 0xE3 → ⊥) → Answer o 0 us
+  turn-gap g = shut-answer o us (turn .1 .2 ∙ rw (ne-eqb (getD us at 0) 0xE3 g))
 
   -- it does, and its string bytes are pulled down
   module _ (mark : getD us at 0 ≡ 0xE3) {us′ : List ℕ} (p : us′ ≡ sets us len (take (roomAt k) (drop (at + 3) us))) where
@@ -369,8 +385,8 @@ module _ {sys total : ℕ} {us₀ us : List ℕ} {at len k : ℕ} (w : Opening s
 
     -- END is 0
     pub turn-last : getD us (at + 1) 0 % 2 ≡ 0 → {r : ℕ} → r ≡ cond fill-behind ((len + room) * 128 + room) 0
-        → Answer (openedFrom sys us₀) r us′
-    turn-last z {r} q = last-answer sys us₀ fill-behind us′ (len + room) room r opens fits q
+        → Answer o r us′
+    turn-last z {r} q = last-answer o fill-behind us′ (len + room) room r opens fits (omega (arith, turn .1 .1)) (rw is (room-cases k)) q
       where
         fits : len + room ≤ length us′
         fits =
@@ -379,14 +395,14 @@ module _ {sys total : ℕ} {us₀ us : List ℕ} {at len k : ℕ} (w : Opening s
             let g = turn-within in
             omega arith
 
-        opens : openedFrom sys us₀ ≡ cond fill-behind (opened (take (len + room) us′) room) shut
+        opens : o ≡ cond fill-behind (opened (take (len + room) us′) room) shut
         opens =
             turn .1 .2
-            ∙ rw (eq-eqb (getD us at 0) 0xE3 mark, ne-eqb (getD us (at + 1) 0 % 2) 1 (λ q. omega arith), pulled-down, last-pack)
+            ∙ rw (drop-take (at + (3 + room)) total next-us, eq-eqb (getD us at 0) 0xE3 mark, ne-eqb (getD us (at + 1) 0 % 2) 1 (λ q. omega arith), pulled-down, last-pack)
 
     -- END is 1
     pub turn-more : (getD us (at + 1) 0 % 2 ≡ 0 → ⊥) → {j : ℕ} → (j ≡ after k) × (j < 24)
-        → Opening sys total us₀ us′ (at + (3 + room)) (len + room) j
+        → Opening o total us′ (at + (3 + room)) (len + room) j
     turn-more z e =
         let y : getD us (at + 1) 0 % 2 ≡ 1 = omega arith in
         let f = w .low in
@@ -395,6 +411,6 @@ module _ {sys total : ℕ} {us₀ us : List ℕ} {at len k : ℕ} (w : Opening s
           row = e .1;
           whole = rw (e .0) (turn .1 .0);
           low = omega arith;
-          same = rw pulled-down (turn .1 .1);
+          most = rw (e .0) (turn .1 .1);
           rest = sym (turn .1 .2 ∙ rw (eq-eqb (getD us at 0) 0xE3 mark, eq-eqb (getD us (at + 1) 0 % 2) 1 y, pulled-down, e .0));
         }

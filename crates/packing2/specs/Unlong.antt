@@ -1,18 +1,20 @@
 -- Reading packing 2 (001, 4.1.2): a frame's user bytes opened, and the number that says what came out.
 --
--- In order: what the call promises; how the code goes about it: the packs' sizes by their number in a row of two sequences.
+-- In order: what the call promises; how the code goes about it: the packs' sizes by their number in a row of two sequences; packs that
+-- all go on.
 -- Assumes nothing.
-use Prim.Native.Nat.{ℕ, zero, suc, _+_, _*_, _≤_}
+use Prim.Native.Nat.{ℕ, zero, suc, _+_, _-_, _*_, _%_, _≤_}
 use mathlib.Core.Path.{_≡_}
 use mathlib.Core.Logic.{_⊎_}
-use mathlib.Core.Bool.{cond}
+use mathlib.Core.Bool.{Bool, true, cond, _&&_}
 use mathlib.Core.List.{List, [], _∷_}
 use lib.Dec.{eqb, ltb}
-use lib.ListN.{length, take}
+use lib.ListN.{length, getD, take, drop}
+use lib.Seq.{sets}
 use Rattle.rules.specs.Base.{sum}
 use Rattle.rules.specs.Systems.{system}
 use Rattle.rules.specs.Blocks.{blockSizes}
-use Rattle.rules.specs.Packing2.{Opened, opened, shut, openLong}
+use Rattle.rules.specs.Packing2.{Opened, opened, shut, onto, openLong}
 
 -- ---- what the call promises
 
@@ -46,3 +48,17 @@ after k = cond (eqb k 23) 0 (k + 1)
 abbrev pub sizesFrom : ℕ → ℕ → List ℕ
 sizesFrom k zero = []
 sizesFrom k (suc left) = (roomAt k + 3) ∷ sizesFrom (after k) left
+
+-- packs of these sizes all go on: each begins with E3h and has END 1
+unfoldable pub goOn : List ℕ → List ℕ → Bool
+goOn [] ub = true
+goOn (n ∷ ns) ub = eqb (getD ub 0 0) 0xE3 && (eqb (getD ub 1 0 % 2) 1 && goOn ns (drop n ub))
+
+-- the buffer with the string bytes of packs of these sizes pulled down, from `at` on to len on
+unfoldable pub pulledDown : List ℕ → List ℕ → ℕ → ℕ → List ℕ
+pulledDown [] us at len = us
+pulledDown (n ∷ ns) us at len = pulledDown ns (sets us len (take (n - 3) (drop (at + 3) us))) (at + n) (len + (n - 3))
+
+-- what packs of these sizes open to, from `at` on in a buffer's first `total` bytes, put onto the len string bytes at its start
+abbrev pub openedOn : List ℕ → ℕ → List ℕ → ℕ → ℕ → Opened
+openedOn ns total us at len = onto (take len us) (openLong ns (drop at (take total us)))
