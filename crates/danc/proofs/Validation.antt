@@ -1,24 +1,24 @@
--- The validation of a string, one packet at a time, and what its answer says.
+-- The validation of a string, one packet at a time.
 --
--- In order: the end; 5; a fault; one packet more; what a caller learns (`validated-listed`, `validated-refused`).
+-- In order: the numbers of faults; the end; 5; a fault; one packet more.
 -- Assumes nothing.
-use Prim.Native.Nat.{ℕ, zero, suc, _+_, _-_, _*_, _/_, _%_, _≤_, _<_}
+use Prim.Native.Nat.{ℕ, zero, suc, _+_, _-_, _*_, _%_, _≤_}
 use mathlib.Core.Path.{_≡_, refl, sym, ap, _∙_}
 use mathlib.Core.Bool.{Bool, true, false, cond, not, _||_}
-use mathlib.Core.List.{List, []}
+use mathlib.Core.List.{List}
 use native.Mathlib.Omega.{arith}
 use native.Mathlib.Numerals.{add-one}
 use lib.Dec.{eqb, ltb}
 use lib.ListN.{length, getD, take, drop, length-drop}
 use lib.Seq.{length-take-le, getD-take, getD-drop, drop-drop}
-use borrow.Author.Tests.{ne-eqb, eqb-true}
+use borrow.Author.Tests.{ne-eqb}
 use Rattle.rules.specs.Systems.{System}
 use Rattle.rules.specs.Packet.{Packet, checkOf}
-use Rattle.rules.specs.Danc.{bytesOf, stringBytes}
+use Rattle.rules.specs.Danc.{bytesOf}
 use Rattle.rules.specs.Sheet.{limit}
 use Rattle.rules.specs.Numbers.{Outcome, listed, refused, also, packetsIn}
 use Rattle.rules.specs.Reading.{packetOfBytes, lineFault, bytesFault, stringFault, stringEnds, stringRow}
-use Rattle.danc.specs.Validated.{codeOf, validated, Within}
+use Rattle.danc.specs.Validated.{codeOf, validated}
 use Rattle.rules.proofs.Basics.{drop-take}
 use Rattle.danc.proofs.Laws.{fault-room, run-room}
 
@@ -110,72 +110,3 @@ module _ (y : System) (room : ℕ) (us : List ℕ) (end at k : ℕ) where
         pub at-next : validated y room (take end us) (at + (dc + 7)) (k + 1) ≡ validated y room (take end us) at k
         unfolding validated
         at-next = rw (one-packet, f, code-also at k (packetOfBytes rest), size-at, dc-at, drop-drop (dc + 7) at (take end us))
-
--- ---- what a caller learns
-
--- what can come out of a string of so many bytes, with so many packets left, the first of them number i
-abbrev Bounded : ℕ → ℕ → ℕ → Outcome → Type 0
-Bounded left i bytes (listed ps) = (length ps ≤ left) × (stringBytes ps ≤ bytes)
-Bounded left i bytes (refused n j) = (n ≤ 16) × (j ≤ i + left)
-
-bounded : (y : System) (room left i : ℕ) (s : List ℕ) → Bounded left i (length s) (packetsIn (stringRow y room) left i s)
-unfolding stringRow
-bounded y room zero i s = go (stringEnds room s)
-  where
-    go : (d : Bool) → Bounded zero i (length s) (cond d (listed []) (refused 5 i))
-    go true = (omega arith, omega arith)
-    go false = (omega arith, omega arith)
-bounded y room (suc left) i s =
-    go (stringEnds room s) (eqb (stringFault y s) 0) refl (packetsIn (stringRow y room) left (suc i) (drop (getD s 5 0 + 7) s))
-    (bounded y room left (suc i) (drop (getD s 5 0 + 7) s))
-  where
-    more : (o : Outcome) → stringFault y s ≡ 0 → Bounded left (suc i) (length (drop (getD s 5 0 + 7) s)) o → Bounded (suc left) i (length s) (also (packetOfBytes s) o)
-    more (listed ps) z b =
-        let r = fault-room y s z in
-        let d = length-drop (getD s 5 0 + 7) s in
-        let e = length-drop 6 s in
-        let u = length-take-le (getD s 5 0) (drop 6 s) (omega arith) in
-        (omega arith, omega arith)
-    more (refused n j) z b = (b .0, omega arith)
-
-    go : (d z : Bool) → eqb (stringFault y s) 0 ≡ z → (o : Outcome) → Bounded left (suc i) (length (drop (getD s 5 0 + 7) s)) o
-        → Bounded (suc left) i (length s) (cond d (listed []) (cond z (also (packetOfBytes s) o) (refused (stringFault y s) i)))
-    go true z q o b = (omega arith, omega arith)
-    go false true q o b = more o (eqb-true (stringFault y s) 0 q) b
-    go false false q o b = (fault-small y s, omega arith)
-
--- the string's packets, how many they are with those before, and where the last of them ends
-pub record Whole (y : System) (room : ℕ) (s : List ℕ) (at k r : ℕ) : Type 0 where
-  pub packets : List Packet
-  pub are : packetsIn (stringRow y room) (limit - k) k (drop at s) ≡ listed packets
-  pub count : r % 1024 ≡ k + length packets
-  pub few : k + length packets ≤ limit
-  pub end : r / 1024 ≡ at + stringBytes packets
-  pub within : at + stringBytes packets ≤ length s
-
--- a refusal: its number and its packet
-pub record Refusal (y : System) (room : ℕ) (s : List ℕ) (at k r : ℕ) : Type 0 where
-  pub number : ℕ
-  pub packet : ℕ
-  pub is : packetsIn (stringRow y room) (limit - k) k (drop at s) ≡ refused number packet
-  pub number-is : (r - 1073741824) / 1024 ≡ number
-  pub packet-is : (r - 1073741824) % 1024 ≡ packet
-
-module _ (y : System) (room : ℕ) (s : List ℕ) (at k : ℕ) (w : Within (length s) at k) (r : ℕ) (e : r ≡ validated y room s at k) where
-  pub validated-listed : r < 1073741824 → Whole y room s at k r
-  unfolding validated limit
-  validated-listed h = go (packetsIn (stringRow y room) (512 - k) k (drop at s)) refl (bounded y room (512 - k) k (drop at s)) e
-    where
-      go : (o : Outcome) → packetsIn (stringRow y room) (512 - k) k (drop at s) ≡ o → Bounded (512 - k) k (length (drop at s)) o → r ≡ codeOf at k o → Whole y room s at k r
-      go (listed ps) q b f =
-          let d = length-drop at s in
-          record { packets = ps; are = q; count = omega arith; few = omega arith; end = omega arith; within = omega arith }
-      go (refused n i) q b f = absurd (omega arith)
-
-  pub validated-refused : 1073741824 ≤ r → Refusal y room s at k r
-  unfolding validated limit
-  validated-refused h = go (packetsIn (stringRow y room) (512 - k) k (drop at s)) refl (bounded y room (512 - k) k (drop at s)) e
-    where
-      go : (o : Outcome) → packetsIn (stringRow y room) (512 - k) k (drop at s) ≡ o → Bounded (512 - k) k (length (drop at s)) o → r ≡ codeOf at k o → Refusal y room s at k r
-      go (listed ps) q b f = let d = length-drop at s in absurd (omega arith)
-      go (refused n i) q b f = record { number = n; packet = i; is = q; number-is = omega arith; packet-is = omega arith }

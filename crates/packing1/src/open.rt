@@ -63,7 +63,7 @@ fn starter(us: &[u8; 9360], at: usize, total: usize) -> usize
     }
     let head = us[at];
     if head == 0xE2 {
-        return starter(us, carriers_end(us, at + 5, total), total);
+        return starter(us, at + 5, total);
     }
     if head == 0xE1 {
         return carrier(us, at + 5, total);
@@ -84,7 +84,7 @@ fn carrier(us: &[u8; 9360], at: usize, total: usize) -> usize
         return 1;
     }
     if us[at] == 0xE2 {
-        return starter(us, at + 5, total);
+        return starter(us, carriers_end(us, at + 5, total), total);
     }
     1
 }

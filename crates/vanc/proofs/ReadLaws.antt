@@ -268,11 +268,9 @@ pub long-len : (o : Opened) (r : ℕ) (us : List ℕ) → Answer o r us → (r �
 long-len o r us w z = answer-some o r us w z .1
 
 -- the bounds of validation
-pub long-within : (us : List ℕ) (len : ℕ) → len ≤ 8928 → Within (take len us) 0 0
+pub long-within : (len : ℕ) → len ≤ 8928 → Within len 0 0
 unfolding limit
-long-within us len h =
-    let l : length (take len us) ≤ len = simp length-take (omega arith) in
-    record { short = omega arith; place = omega arith; packet = omega arith }
+long-within len h = record { short = omega arith; place = omega arith; packet = omega arith }
 
 -- ---- the first user byte
 

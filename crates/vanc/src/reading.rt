@@ -16,6 +16,7 @@ ghost use Rattle.rules.specs.Reading.{readBackOf, stringRow, packetsOfOpened, p
 ghost use Rattle.rules.specs.Demands.{Reads};
 ghost use Rattle.sheet.specs.Write.{shown};
 ghost use Rattle.packing1.specs.Open.{packetsOfFives};
+ghost use Rattle.danc.specs.Validated.{validated};
 ghost use Rattle.packing2.specs.Unlong.{openedFrom};
 ghost use Rattle.vanc.specs.Read.{Back, Coded};
 
@@ -91,14 +92,21 @@ fn read_fives(
     decoded(system, 1, code, us, sheet)
 }
 
-// "the string bytes of all packs are walked": as many as `opened` has 128s, and the rest of it is how many the last pack has room for.
-fn read_string(system: u64, last: Line, opened: usize, us: &[u8], sheet: &mut [u16]) -> ReadBack
+// "the string bytes of all packs are walked": `code` is what the walk gave of as many as `opened` has 128s, where the rest of `opened` is how
+// many the last pack has room for.
+fn read_string(
+    system: u64,
+    last: Line,
+    opened: usize,
+    code: usize,
+    us: &[u8],
+    sheet: &mut [u16],
+) -> ReadBack
     requires { ⌜ (system ≤ 3) × (last .0 < 2047) × (length (now us) ≡ 9360) × (opened / 128 ≤ 8928) ⌝ }
+    requires { ⌜ ((y : System) → y .last ≡ last .0 → code ≡ validated y (opened % 128) (take (opened / 128) (now us)) 0 0) ⌝ }
     ensures { λ r. ⌜ ((y : System) → y .last ≡ last .0 → Back system 2 (now (sheet .entry))
         (packetsIn (stringRow y (opened % 128)) limit 0 (take (opened / 128) (now (us .entry)))) r (now (sheet .exit))) ⌝ }
 {
-    let end = opened / 128;
-    let code = danc::validate(last, opened % 128, &us[..end], 0, 0);
     decoded(system, 2, code, us, sheet)
 }
 
@@ -112,7 +120,8 @@ fn read_long(system: u64, last: Line, us: &mut [u8; 9360], sheet: &mut [u16]) ->
     if opened == 0 {
         return refusal(13, 0);
     }
-    read_string(system, last, opened, us, sheet)
+    let code = danc::validate(last, opened % 128, us, opened / 128, 0, 0);
+    read_string(system, last, opened, code, us, sheet)
 }
 
 // "Refusal 13 is given unless one of these holds. The first user byte in laying order is FFh and so is every other. Or it is E1h, ..

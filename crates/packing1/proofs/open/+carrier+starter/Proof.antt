@@ -35,21 +35,30 @@ abbrev starter-below : ℕ → In 1 starter-kinds.ps
 starter-below t = and 1 starter-kinds.ps (falls 1 starter-kinds.ps _<_ μ-starter t) starter.Pre
 
 carrier-returns :
-    (t : ℕ) → carrier-lts.Need-returns (starter-below t, starter.Post) (carrier-at t) carrier.Post
+    (t : ℕ) → carrier-lts.Need-returns (carriers-end-reads.Asked, carriers-end-reads.Learnt, starter-below t, starter.Post) (carrier-at t) carrier.Post
 carrier-returns t c = order-short (c .before .args .us .now) (c .before .args .at) (c .before .args .total) (c .if1 .taken)
 
 carrier-element-copy-out-if2 : (t : ℕ) → carrier-lts.Need-element-copy-out-if2 (
+  carriers-end-reads.Asked,
+  carriers-end-reads.Learnt,
   starter-below t,
   starter.Post,
 ) (carrier-at t) carrier.Post
 carrier-element-copy-out-if2 t c = search needs
 
-carrier-add-starter :
+carrier-add-carriers-end :
     (t : ℕ) →
-    carrier-lts.Need-add-starter (starter-below t, starter.Post) (carrier-at t) carrier.Post
-carrier-add-starter t c = search needs
+    carrier-lts.Need-add-carriers-end (carriers-end-reads.Asked, carriers-end-reads.Learnt, starter-below t, starter.Post) (carrier-at t) carrier.Post
+carrier-add-carriers-end t c = search needs
+
+carrier-carriers-end-requires :
+    (t : ℕ) →
+    carrier-lts.Need-carriers-end-requires (carriers-end-reads.Asked, carriers-end-reads.Learnt, starter-below t, starter.Post) (carrier-at t) carrier.Post
+carrier-carriers-end-requires t c κs = search needs
 
 carrier-starter-requires : (t : ℕ) → carrier-lts.Need-starter-requires (
+  carriers-end-reads.Asked,
+  carriers-end-reads.Learnt,
   starter-below t,
   starter.Post,
 ) (carrier-at t) carrier.Post
@@ -57,17 +66,15 @@ carrier-starter-requires t c κs = search needs
 
 carrier-returns-2 :
     (t : ℕ) →
-    carrier-lts.Need-returns-2 (starter-below t, starter.Post) (carrier-at t) carrier.Post
-carrier-returns-2 t c = let a = c .before .before .before .before .args in let z = c .before .before .before .before .pre .1 in order-second (a .us .now) (a .at) (a .total) (c .starter .result) (omega arith) (omega arith) (c .before .if2 .taken) (c .starter .ensures)
+    carrier-lts.Need-returns-2 (carriers-end-reads.Asked, carriers-end-reads.Learnt, starter-below t, starter.Post) (carrier-at t) carrier.Post
+carrier-returns-2 t c = let a = c .before .before .before .before .before .args in let z = c .before .before .before .before .before .pre .1 in order-second (a .us .now) (a .at) (a .total) (c .starter .result) (omega arith) (omega arith) (c .before .before .if2 .taken) (c .starter .ensures ∙ c .before .carriers-end .ensures .same)
 
 carrier-returns-3 :
     (t : ℕ) →
-    carrier-lts.Need-returns-3 (starter-below t, starter.Post) (carrier-at t) carrier.Post
+    carrier-lts.Need-returns-3 (carriers-end-reads.Asked, carriers-end-reads.Learnt, starter-below t, starter.Post) (carrier-at t) carrier.Post
 carrier-returns-3 t c = let a = c .before .before .before .args in let z = c .before .before .before .pre .1 in order-no-carrier (a .us .now) (a .at) (a .total) (1) (omega arith) (omega arith) (c .if2 .left)
 
 starter-returns : (t : ℕ) → starter-lts.Need-returns (
-  carriers-end-reads.Asked,
-  carriers-end-reads.Learnt,
   starter-below t,
   starter.Post,
   carrier-below t,
@@ -78,8 +85,6 @@ starter-returns : (t : ℕ) → starter-lts.Need-returns (
 starter-returns t c = order-end (c .before .args .us .now) (c .before .args .at) (c .before .args .total) (c .if1 .taken)
 
 starter-element-copy-out-head : (t : ℕ) → starter-lts.Need-element-copy-out-head (
-  carriers-end-reads.Asked,
-  carriers-end-reads.Learnt,
   starter-below t,
   starter.Post,
   carrier-below t,
@@ -89,9 +94,7 @@ starter-element-copy-out-head : (t : ℕ) → starter-lts.Need-element-copy-out-
 ) (starter-at t) starter.Post
 starter-element-copy-out-head t c = search needs
 
-starter-add-carriers-end : (t : ℕ) → starter-lts.Need-add-carriers-end (
-  carriers-end-reads.Asked,
-  carriers-end-reads.Learnt,
+starter-add-starter : (t : ℕ) → starter-lts.Need-add-starter (
   starter-below t,
   starter.Post,
   carrier-below t,
@@ -99,23 +102,9 @@ starter-add-carriers-end : (t : ℕ) → starter-lts.Need-add-carriers-end (
   all-fill-reads.Asked,
   all-fill-reads.Learnt,
 ) (starter-at t) starter.Post
-starter-add-carriers-end t c = search needs
-
-starter-carriers-end-requires : (t : ℕ) → starter-lts.Need-carriers-end-requires (
-  carriers-end-reads.Asked,
-  carriers-end-reads.Learnt,
-  starter-below t,
-  starter.Post,
-  carrier-below t,
-  carrier.Post,
-  all-fill-reads.Asked,
-  all-fill-reads.Learnt,
-) (starter-at t) starter.Post
-starter-carriers-end-requires t c κs = search needs
+starter-add-starter t c = search needs
 
 starter-starter-requires : (t : ℕ) → starter-lts.Need-starter-requires (
-  carriers-end-reads.Asked,
-  carriers-end-reads.Learnt,
   starter-below t,
   starter.Post,
   carrier-below t,
@@ -126,8 +115,6 @@ starter-starter-requires : (t : ℕ) → starter-lts.Need-starter-requires (
 starter-starter-requires t c κs = search needs
 
 starter-returns-2 : (t : ℕ) → starter-lts.Need-returns-2 (
-  carriers-end-reads.Asked,
-  carriers-end-reads.Learnt,
   starter-below t,
   starter.Post,
   carrier-below t,
@@ -135,11 +122,9 @@ starter-returns-2 : (t : ℕ) → starter-lts.Need-returns-2 (
   all-fill-reads.Asked,
   all-fill-reads.Learnt,
 ) (starter-at t) starter.Post
-starter-returns-2 t c = let a = c .before .before .before .before .before .args in let z = c .before .before .before .before .before .pre .1 in order-carrier (a .us .now) (a .at) (a .total) (c .starter .result) (omega arith) (omega arith) (c .before .before .if2 .taken) (c .starter .ensures ∙ c .before .carriers-end .ensures .same)
+starter-returns-2 t c = let a = c .before .before .before .before .args in let z = c .before .before .before .before .pre .1 in order-carrier (a .us .now) (a .at) (a .total) (c .starter .result) (omega arith) (omega arith) (c .before .if2 .taken) (c .starter .ensures)
 
 starter-add-carrier : (t : ℕ) → starter-lts.Need-add-carrier (
-  carriers-end-reads.Asked,
-  carriers-end-reads.Learnt,
   starter-below t,
   starter.Post,
   carrier-below t,
@@ -150,8 +135,6 @@ starter-add-carrier : (t : ℕ) → starter-lts.Need-add-carrier (
 starter-add-carrier t c = search needs
 
 starter-carrier-requires : (t : ℕ) → starter-lts.Need-carrier-requires (
-  carriers-end-reads.Asked,
-  carriers-end-reads.Learnt,
   starter-below t,
   starter.Post,
   carrier-below t,
@@ -162,8 +145,6 @@ starter-carrier-requires : (t : ℕ) → starter-lts.Need-carrier-requires (
 starter-carrier-requires t c κs = search needs
 
 starter-returns-3 : (t : ℕ) → starter-lts.Need-returns-3 (
-  carriers-end-reads.Asked,
-  carriers-end-reads.Learnt,
   starter-below t,
   starter.Post,
   carrier-below t,
@@ -174,8 +155,6 @@ starter-returns-3 : (t : ℕ) → starter-lts.Need-returns-3 (
 starter-returns-3 t c = let a = c .before .before .before .before .before .args in let z = c .before .before .before .before .before .pre .1 in order-starter (a .us .now) (a .at) (a .total) (c .carrier .result) (omega arith) (omega arith) (c .before .if3 .taken) (c .carrier .ensures)
 
 starter-sub-all-fill : (t : ℕ) → starter-lts.Need-sub-all-fill (
-  carriers-end-reads.Asked,
-  carriers-end-reads.Learnt,
   starter-below t,
   starter.Post,
   carrier-below t,
@@ -186,8 +165,6 @@ starter-sub-all-fill : (t : ℕ) → starter-lts.Need-sub-all-fill (
 starter-sub-all-fill t c = search needs
 
 starter-part-all-fill-start : (t : ℕ) → starter-lts.Need-part-all-fill-start (
-  carriers-end-reads.Asked,
-  carriers-end-reads.Learnt,
   starter-below t,
   starter.Post,
   carrier-below t,
@@ -198,8 +175,6 @@ starter-part-all-fill-start : (t : ℕ) → starter-lts.Need-part-all-fill-start
 starter-part-all-fill-start t c = search needs
 
 starter-part-all-fill-end : (t : ℕ) → starter-lts.Need-part-all-fill-end (
-  carriers-end-reads.Asked,
-  carriers-end-reads.Learnt,
   starter-below t,
   starter.Post,
   carrier-below t,
@@ -210,8 +185,6 @@ starter-part-all-fill-end : (t : ℕ) → starter-lts.Need-part-all-fill-end (
 starter-part-all-fill-end t c = search needs
 
 starter-all-fill-requires : (t : ℕ) → starter-lts.Need-all-fill-requires (
-  carriers-end-reads.Asked,
-  carriers-end-reads.Learnt,
   starter-below t,
   starter.Post,
   carrier-below t,
@@ -222,8 +195,6 @@ starter-all-fill-requires : (t : ℕ) → starter-lts.Need-all-fill-requires (
 starter-all-fill-requires t c κs = search needs
 
 starter-returns-4 : (t : ℕ) → starter-lts.Need-returns-4 (
-  carriers-end-reads.Asked,
-  carriers-end-reads.Learnt,
   starter-below t,
   starter.Post,
   carrier-below t,
@@ -234,8 +205,6 @@ starter-returns-4 : (t : ℕ) → starter-lts.Need-returns-4 (
 starter-returns-4 t c = let a = c .before .before .before .before .before .before .before .before .args in let z = c .before .before .before .before .before .before .before .before .pre .1 in order-fill (a .us .now) (a .at) (a .total) (1) (omega arith) (omega arith) (z .2) (c .before .before .before .before .before .if2 .left) (c .before .before .before .before .if3 .left) (sym (c .before .all-fill .ensures) ∙ c .if4 .taken)
 
 starter-returns-5 : (t : ℕ) → starter-lts.Need-returns-5 (
-  carriers-end-reads.Asked,
-  carriers-end-reads.Learnt,
   starter-below t,
   starter.Post,
   carrier-below t,
@@ -247,6 +216,8 @@ starter-returns-5 t c = let a = c .before .before .before .before .before .befor
 
 pub +carrier+starter-spec : {M : Type 1} → statement M
 +carrier+starter-spec = close μ-carrier μ-starter (λ t. carrier-lts.spec (
+  carriers-end-reads.Asked,
+  carriers-end-reads.Learnt,
   starter-below t,
   starter.Post,
 )
@@ -254,13 +225,12 @@ pub +carrier+starter-spec : {M : Type 1} → statement M
     carrier.Post
     (carrier-returns t)
     (carrier-element-copy-out-if2 t)
-    (carrier-add-starter t)
+    (carrier-add-carriers-end t)
+    (carrier-carriers-end-requires t)
     (carrier-starter-requires t)
     (carrier-returns-2 t)
     (carrier-returns-3 t))
     λ t. starter-lts.spec (
-      carriers-end-reads.Asked,
-      carriers-end-reads.Learnt,
       starter-below t,
       starter.Post,
       carrier-below t,
@@ -272,8 +242,7 @@ pub +carrier+starter-spec : {M : Type 1} → statement M
     starter.Post
     (starter-returns t)
     (starter-element-copy-out-head t)
-    (starter-add-carriers-end t)
-    (starter-carriers-end-requires t)
+    (starter-add-starter t)
     (starter-starter-requires t)
     (starter-returns-2 t)
     (starter-add-carrier t)
