@@ -44,4 +44,12 @@ else
   "$work/second" 376 20000 "${answer[@]}" fence >"$work/log" || { cat "$work/log"; exit 1; }
   echo "second: $(tail -n 1 "$work/log"), and no byte read behind a buffer"
   "$work/second" "${1-375}" "${2-120000}" "${answer[@]}"
+  # The baselines that the library's cost is compared with have to do the same work.
+  for baseline in plain tuned; do
+    cc_for -std=c11 -O3 -I include -I bench -Dvanc_lay=baseline_lay -Dvanc_read=baseline_read -c tests/second/answer.c -o "$work/answer.o"
+    cc_for -std=c11 -O3 -I include -I bench -c "bench/$baseline.c" -o "$work/baseline.o"
+    cc_for "$work/answer.o" "$work/baseline.o" target/staticlib/libvanc.a -o "$work/answer"
+    "$work/second" 377 10000 "${answer[@]}" >"$work/log" || { cat "$work/log"; exit 1; }
+    echo "second: bench/$baseline.c: $(tail -n 1 "$work/log")"
+  done
 fi

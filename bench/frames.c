@@ -1,0 +1,191 @@
+/*
+ * Lays or reads one frame of system 1, TIMES times over:
+ *
+ *     frames lay|read PACKING LIST sound|early|late TIMES [time]
+ *
+ * LIST   the packets, as 23x255+1x160: 23 of 255 user words and one of 160; 0x0 is none
+ * early  reading: DID of the first packet is damaged in the area; late: that of the last
+ *
+ * Prints what the last call gave back and a hash of what it wrote; with `time`, then the nanoseconds of a call. Built with -DBASELINE it
+ * calls a baseline, else the library.
+ */
+#include <stdbool.h>
+#include <stdio.h>
+#include <stdlib.h>
+#include <string.h>
+#include <time.h>
+
+#include "baseline.h"
+
+#ifdef BASELINE
+#define LAY baseline_lay
+#define READ baseline_read
+#else
+#define LAY vanc_lay
+#define READ vanc_read
+#endif
+
+enum { N = 10, AREA = VANC_AREA_1080_60I, SHEET = VANC_SHEET_MAX, NOBODYS = 0xA5 };
+
+static uint16_t sheet[SHEET], back[SHEET];
+static uint8_t area[AREA];
+static size_t packets, words, last_packet;
+
+static void fail(const char *why)
+{
+    fprintf(stderr, "frames: %s\n", why);
+    exit(2);
+}
+
+/* The same bytes in every program and on every machine. */
+static unsigned next_byte(void)
+{
+    static uint32_t state = 375;
+    state = state * 1664525 + 1013904223;
+    return state >> 24;
+}
+
+static uint16_t with_parity(unsigned byte)
+{
+    unsigned ones = 0;
+    for (unsigned bits = byte; bits != 0; bits >>= 1)
+        ones += bits & 1;
+    return (uint16_t)(ones % 2 == 1 ? byte + 0x100 : byte + 0x200);
+}
+
+static void add_packet(uint16_t *to, unsigned count)
+{
+    unsigned sum = 0;
+    uint16_t *word = to;
+    *word++ = 0x000;
+    *word++ = 0x3FF;
+    *word++ = 0x3FF;
+    *word++ = with_parity(0x61);
+    *word++ = with_parity(0x01);
+    *word++ = with_parity(count);
+    for (unsigned k = 0; k < count; k++)
+        *word++ = with_parity(next_byte());
+    for (uint16_t *w = to + 3; w < word; w++)
+        sum += *w % 512;
+    *word = (uint16_t)(sum % 512 + (sum / 256 % 2 == 0 ? 512 : 0));
+}
+
+/* How many packets a list has: they are needed before the first word's place is known. */
+static size_t packets_of(const char *list)
+{
+    size_t all = 0;
+    for (const char *part = list; part != NULL; part = strchr(part, '+')) {
+        part += *part == '+';
+        all += strtoul(part, NULL, 10);
+    }
+    return all;
+}
+
+static void make_sheet(const char *list)
+{
+    packets = packets_of(list);
+    uint16_t *section = sheet + 3 + 2 * packets;
+    for (const char *part = list; part != NULL; part = strchr(part, '+')) {
+        unsigned many, count;
+        part += *part == '+';
+        if (sscanf(part, "%ux%u", &many, &count) != 2 || count > 255)
+            fail("no such list");
+        for (; many > 0; many--) {
+            if ((size_t)(section + 1 - sheet) + words + count + 7 > SHEET)
+                fail("the list is longer than a sheet");
+            last_packet = words;
+            add_packet(section + 1 + words, count);
+            words += count + 7;
+        }
+    }
+    sheet[0] = 1;
+    sheet[1] = 1;
+    sheet[2] = (uint16_t)packets;
+    for (size_t k = 0; k < packets; k++) {
+        sheet[3 + 2 * k] = (uint16_t)(k * 37 % 1126);
+        sheet[4 + 2 * k] = (uint16_t)(k % 4);
+    }
+    *section = (uint16_t)words;
+}
+
+/* Where byte `place` of those that the blocks carry stands in the area; the first `skip` user bytes of each block are not counted. */
+static size_t area_place(size_t place, size_t skip)
+{
+    for (size_t sequence = 0; sequence < N; sequence++)
+        for (size_t block = 0; block < 3; block++)
+            for (size_t channel = 0; channel < 4; channel++) {
+                size_t odd = sequence % 2, half = block == (odd ? 0 : 2);
+                size_t size = (half ? 45 : 75) - skip;
+                if (place < size)
+                    return 80 * (3 * (N * channel + sequence) + block) + (odd && half ? 33 : 3) + skip + place;
+                place -= size;
+            }
+    fail("no such byte");
+    return 0;
+}
+
+/* The packs of 5 in front of the packet whose words begin at `packet`. */
+static size_t packs_before(size_t packet)
+{
+    size_t packs = 0;
+    for (size_t at = 0; at < packet;) {
+        size_t count = sheet[4 + 2 * packets + at + 5] % 256;
+        packs += 2 + (count + 3) / 4;
+        at += count + 7;
+    }
+    return packs;
+}
+
+static void damage(uint64_t packing, size_t packet)
+{
+    size_t did = packing == 1 ? area_place(5 * packs_before(packet) + 6, 0) : area_place(packet + 3, 3);
+    area[did] ^= 1;
+}
+
+static uint64_t hash(const void *from, size_t size)
+{
+    uint64_t h = 14695981039346656037u;
+    for (size_t i = 0; i < size; i++)
+        h = (h ^ ((const uint8_t *)from)[i]) * 1099511628211u;
+    return h;
+}
+
+static void lay_times(uint64_t packing, long times)
+{
+    vanc_laid r = { 0 };
+    for (long k = 0; k < times; k++)
+        r = LAY(sheet, 4 + 2 * packets + words, packing, area, AREA);
+    printf("%lu %lu %lu %lu %016lx\n", r.number, r.place, r.packs, r.bytes, hash(area, sizeof area));
+}
+
+static void read_times(long times)
+{
+    vanc_read_back r = { 0 };
+    for (long k = 0; k < times; k++)
+        r = READ(1, area, AREA, back, SHEET);
+    printf("%lu %lu %lu %lu %lu %016lx\n", r.number, r.place, r.packing, r.packets, r.numbers, hash(back, sizeof back));
+}
+
+int main(int argc, char **argv)
+{
+    if (argc != 6 && argc != 7)
+        fail("frames lay|read PACKING LIST sound|early|late TIMES [time]");
+    uint64_t packing = strtoul(argv[2], NULL, 10);
+    long times = strtol(argv[5], NULL, 10);
+    bool lays = strcmp(argv[1], "lay") == 0;
+    memset(area, NOBODYS, sizeof area);
+    make_sheet(argv[3]);
+    if (!lays && LAY(sheet, 4 + 2 * packets + words, packing, area, AREA).number != 0)
+        fail("the list is not laid");
+    if (!lays && strcmp(argv[4], "sound") != 0)
+        damage(packing, strcmp(argv[4], "early") == 0 ? 0 : last_packet);
+
+    clock_t begun = clock();
+    if (lays)
+        lay_times(packing, times);
+    else
+        read_times(times);
+    if (argc == 7)
+        printf("%.1f\n", 1e9 * (double)(clock() - begun) / CLOCKS_PER_SEC / (double)times);
+    return 0;
+}

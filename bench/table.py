@@ -1,0 +1,127 @@
+"""Counts the instructions of a call of the library and of the baselines, case by case; `bench/run` calls it.
+
+    table.py WORK TOOLCHAIN COMPILER [--growth]
+
+WORK has the programs library, plain and tuned (bench/frames.c linked with each) and count.so.
+"""
+import math
+import platform
+import subprocess
+import sys
+
+WORK, TOOLCHAIN, COMPILER = sys.argv[1:4]
+# The C compiler that the bars below were met with: another one makes other baselines.
+BARS_WITH = "12.2.0"
+PROGRAMS = ["library", "plain", "tuned"]
+
+TYPICAL, FULL1, FULL2, MANY = "30x20", "23x255+1x160", "28x255+1x97", "512x2"
+CASES = [
+    ("lay", 1, TYPICAL, "sound"),
+    ("lay", 2, TYPICAL, "sound"),
+    ("lay", 1, FULL1, "sound"),
+    ("lay", 2, FULL2, "sound"),
+    ("lay", 1, MANY, "sound"),
+    ("lay", 2, MANY, "sound"),
+    ("read", 1, TYPICAL, "sound"),
+    ("read", 2, TYPICAL, "sound"),
+    ("read", 1, FULL1, "sound"),
+    ("read", 2, FULL2, "sound"),
+    ("read", 1, MANY, "sound"),
+    ("read", 2, MANY, "sound"),
+    ("read", 1, "0x0", "sound"),
+    ("read", 1, FULL1, "early"),
+    ("read", 2, FULL2, "early"),
+    ("read", 1, FULL1, "late"),
+    ("read", 2, FULL2, "late"),
+]
+CALLS = 20
+
+
+def run(program, case, times, before=(), after=()):
+    """What the program says on standard output and standard error."""
+    arguments = [*before, f"{WORK}/{program}", *map(str, case), str(times), *after]
+    done = subprocess.run(arguments, capture_output=True, text=True)
+    if done.returncode != 0:
+        sys.exit(f"bench: {' '.join(arguments)}: {done.stderr}")
+    return done.stdout, done.stderr
+
+
+def instructions(program, case):
+    """What a call answers, and its instructions: what CALLS calls more take, divided."""
+    counting = ("qemu-x86_64", "-cpu", "Nehalem", "-plugin", f"{WORK}/count.so")
+    first, once = run(program, case, 1, before=counting)
+    answer, more = run(program, case, 1 + CALLS, before=counting)
+    if first != answer:
+        sys.exit(f"bench: {program} answers {case} in two ways")
+    return answer, (int(more) - int(once)) / CALLS
+
+
+def counted(case):
+    """The three counts of a case. All three have to answer the same and write the same bytes."""
+    answers = [instructions(program, case) for program in PROGRAMS]
+    if len({answer for answer, _ in answers}) != 1:
+        sys.exit(f"bench: different answers to {case}: {answers}")
+    return [count for _, count in answers]
+
+
+def timed(case):
+    """Nanoseconds of a call, the least of several runs in turn."""
+    runs = [[float(run(program, case, 2000, after=["time"])[0].splitlines()[-1]) for program in PROGRAMS] for _ in range(5)]
+    return [min(column) for column in zip(*runs)]
+
+
+def mean(ratios):
+    return math.exp(sum(map(math.log, ratios)) / len(ratios))
+
+
+def name(case):
+    call, packing, packets, state = case
+    if packets == "0x0":
+        return f"{call} an empty area"
+    text = f"{call} {packets.replace('1x', '').replace('x', ' × ').replace('+', ' + ')}, packing {packing}"
+    return text if state == "sound" else f"{text}, damaged, refused {state}"
+
+
+def print_table(measure):
+    """A row for each case, and whether the bars are met."""
+    plain, tuned = [], []
+    print("| Call, packets × DC | Library | Plain C | Tuned C | Ratio to plain | Ratio to tuned |")
+    print("|---|---:|---:|---:|---:|---:|")
+    for case in CASES:
+        library, of_plain, of_tuned = measure(case)
+        plain.append(library / of_plain)
+        tuned.append(library / of_tuned)
+        print(f"| {name(case)} | {library:,.0f} | {of_plain:,.0f} | {of_tuned:,.0f} | {plain[-1]:.2f} | {tuned[-1]:.2f} |")
+    print(f"| geometric mean | | | | {mean(plain):.2f} | {mean(tuned):.2f} |")
+    print(f"| highest | | | | {max(plain):.2f} | {max(tuned):.2f} |")
+    return max(plain) <= 1 and mean(plain) <= 0.75 and mean(tuned) <= 1
+
+
+def print_growth():
+    """By packets without user words, and by the user words of 23 packets."""
+    print("| Packets × DC | Lay, packing 1 | Lay, packing 2 | Read, packing 1 | Read, packing 2 |")
+    print("|---|---:|---:|---:|---:|")
+    for packets in ["0x0", "1x0", "128x0", "256x0", "512x0", "23x0", "23x64", "23x128", "23x255"]:
+        counts = [instructions("library", (call, packing, packets, "sound"))[1] for call in ("lay", "read") for packing in (1, 2)]
+        print(f"| {packets.replace('x', ' × ')} | " + " | ".join(f"{count:,.0f}" for count in counts) + " |")
+
+
+def print_tables():
+    print(f"x86-64 instructions of one call, system 1. Library: {TOOLCHAIN}. C: gcc {COMPILER} -O3.")
+    print()
+    met = print_table(counted)
+    if platform.machine() == "x86_64":
+        print()
+        print("Nanoseconds of one call on this machine.")
+        print()
+        print_table(timed)
+    print()
+    print(f"At most 1.00 of plain C in every case, 0.75 of it and 1.00 of tuned C in the mean: {'yes' if met else 'no'}")
+    if not met and COMPILER == BARS_WITH:
+        sys.exit(1)
+
+
+if sys.argv[4:] == ["--growth"]:
+    print_growth()
+else:
+    print_tables()
