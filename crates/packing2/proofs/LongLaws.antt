@@ -10,7 +10,7 @@ use native.Mathlib.Nat.{add-zero, zero-add}
 use native.Mathlib.Numerals.{add-one}
 use native.Mathlib.Omega.{arith}
 use lib.Dec.{eqb, ltb, leb}
-use lib.ListN.{length, getD, take, drop, set, replicate, length-take, length-drop, length-replicate, take-append-drop, drop-of-length-le}
+use lib.ListN.{length, getD, take, drop, set, replicate, length-take, length-drop, length-replicate, getD-replicate, take-append-drop, drop-of-length-le}
 use lib.Seq.{sets, sets-eq, paste, paste-zero, paste-suc, getD-drop, drop-cons, drop-drop, drop-nil, drop-append-le, length-take-le}
 use borrow.Author.Tests.{eqb-true, eqb-false, leb-true, leb-false, ltb-true, ltb-false, lt-ltb, le-leb, lt-leb, ne-eqb}
 use Rattle.rules.specs.Base.{sum, none, one}
@@ -18,7 +18,7 @@ use Rattle.rules.specs.Systems.{System, known, system, hd1080-60i, hd1080-50i, 
 use Rattle.rules.specs.Blocks.{shift, width, runs, blockSizes}
 use Rattle.rules.specs.Packing2.{fill, filled, endBit, longPacks, stringRoom, longCount}
 use Rattle.rules.proofs.Basics.{all-append, second-false}
-use Rattle.rules.proofs.Long.{Roomy, long-length}
+use Rattle.rules.proofs.Long.{Roomy, long-none, long-length}
 use Rattle.packing2.specs.Long.{Padded, longFits, longAfter, CountOf, rowsOf, four, rowSizes, rowsSizes, LaidAt}
 
 -- ---- stores
@@ -36,6 +36,14 @@ pub put-turn : (us a : List ℕ) (to i : ℕ) → i < length a
 put-turn us a to i h =
     let e : to + (i + 1) ≡ suc (to + i) = omega arith in
     rw (e, add-one, drop-cons a i 0 h)
+
+-- a turn of the loop that stores fill
+pub put-fill : (us : List ℕ) (n to i : ℕ) → i < n
+    → sets (set us (to + i) 0xFF) (to + (i + 1)) (drop (i + 1) (fill n)) ≡ sets us (to + i) (drop i (fill n))
+put-fill us n to i h =
+    let l : length (fill n) ≡ n = length-replicate n 0xFF in
+    ap (λ (x : ℕ). sets (set us (to + i) x) (to + (i + 1)) (drop (i + 1) (fill n))) (sym (getD-replicate n i 0xFF 0 h))
+    ∙ put-turn us (fill n) to i (omega arith)
 
 -- nothing is left
 pub put-end : (us a : List ℕ) (to i : ℕ) → length a ≤ i → sets us (to + i) (drop i a) ≡ us
@@ -85,24 +93,23 @@ leb-rest len at room m e h = go (leb len (at + room)) refl
     go true q = let z = leb-true len (at + room) q in le-leb m room (omega arith)
     go false q = let z = leb-false len (at + room) q in lt-leb m room (omega arith)
 
-module _ (n : ℕ) (s : List ℕ) (at len : ℕ) (hl : len < 9000) (p : Padded len s) where
-  -- behind the string's end a block has fill
-  pub pack-none : len ≤ at → longPacks (n ∷ []) [] (drop at (take len s)) ≡ fill n ++ []
-  pack-none h =
-      let l : length (take len s) ≤ at = simp length-take (omega arith) in
-      rw (drop-of-length-le (take len s) l)
+-- behind the string's end blocks have fill
+pub packs-none : (ns s : List ℕ) (at len : ℕ) → len ≤ at → longPacks ns [] (drop at (take len s)) ≡ fill (sum ns)
+packs-none ns s at len h =
+    let l : length (take len s) ≤ at = simp length-take (omega arith) in
+    rw (drop-of-length-le (take len s) l) (long-none ns [])
 
-  -- before it, a pack has the buffer's bytes
-  pack-some : at < len → at + (n - 3) ≤ 9000
-      → longPacks (n ∷ []) [] (drop at (take len s)) ≡ 0xE3 ∷ (254 + cond (leb len (at + (n - 3))) 0 1) ∷ 0xFF ∷ take (n - 3) (drop at s)
-  pack-some h k =
-      let ls : length s ≡ 9000 = padded-length s len hl p in
-      let lt : length (take len s) ≡ len = length-take-le len s (omega arith) in
-      let ld : length (drop at (take len s)) ≡ len - at = length-drop at (take len s) ∙ ap (λ (m : ℕ). m - at) lt in
-      let f : take (n - 3) (drop at s) ≡ filled (n - 3) (take (n - 3) (drop at (take len s))) =
-      ap (take (n - 3)) (rest-padded s at len (omega arith) (omega arith) p) ∙ take-filled (n - 3) (drop at (take len s)) (9000 - len) (omega arith) in
-      pack-of n (drop at (take len s)) (omega arith)
-      ∙ ap₂ (λ (e : Bool) (t : List ℕ). 0xE3 ∷ (254 + cond e 0 1) ∷ 0xFF ∷ t) (leb-rest len at (n - 3) (length (drop at (take len s))) ld h) (sym f)
+-- before it, a pack has the buffer's bytes
+pack-some : (n : ℕ) (s : List ℕ) (at len : ℕ) → len < 9000 → Padded len s → at < len → at + (n - 3) ≤ 9000
+    → longPacks (n ∷ []) [] (drop at (take len s)) ≡ 0xE3 ∷ (254 + cond (leb len (at + (n - 3))) 0 1) ∷ 0xFF ∷ take (n - 3) (drop at s)
+pack-some n s at len hl p h k =
+    let ls : length s ≡ 9000 = padded-length s len hl p in
+    let lt : length (take len s) ≡ len = length-take-le len s (omega arith) in
+    let ld : length (drop at (take len s)) ≡ len - at = length-drop at (take len s) ∙ ap (λ (m : ℕ). m - at) lt in
+    let f : take (n - 3) (drop at s) ≡ filled (n - 3) (take (n - 3) (drop at (take len s))) =
+    ap (take (n - 3)) (rest-padded s at len (omega arith) (omega arith) p) ∙ take-filled (n - 3) (drop at (take len s)) (9000 - len) (omega arith) in
+    pack-of n (drop at (take len s)) (omega arith)
+    ∙ ap₂ (λ (e : Bool) (t : List ℕ). 0xE3 ∷ (254 + cond e 0 1) ∷ 0xFF ∷ t) (leb-rest len at (n - 3) (length (drop at (take len s))) ld h) (sym f)
 
 -- the array a₀ of n bytes, with i bytes of the buffer, from its byte `at` on, behind its first three
 pub record Filling (n : ℕ) (a₀ s : List ℕ) (at : ℕ) (a : List ℕ) (i : ℕ) : Type 0 where

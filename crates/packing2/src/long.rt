@@ -1,6 +1,7 @@
 // Packing 2, long packs (001, 4.1.2): a string into a frame's user bytes in laying order, one pack to a block.
 //
-// In order: a pack's three bytes; one pack; the same block of four channels; a row of two sequences; all rows; the call; the count.
+// In order: a pack's three bytes; one pack; the same block of four channels; a row of two sequences; a row of fill; all rows; the
+// call; the count.
 // Functions come in pairs, for blocks of 75 and of 45 user bytes: loops of constant length become a few wide moves.
 ghost use mathlib.Core.Path.{_≡_};
 ghost use mathlib.Core.Bool.{false, cond};
@@ -9,7 +10,7 @@ ghost use Prim.Native.Nat.{_+_, _*_, _≤_, _<_};
 ghost use lib.Dec.{leb};
 ghost use lib.ListN.{take, drop};
 ghost use lib.Seq.{sets};
-ghost use Rattle.rules.specs.Packing2.{longPacks};
+ghost use Rattle.rules.specs.Packing2.{fill, longPacks};
 ghost use Rattle.packing2.specs.Long.{Padded, longFits, longAfter, CountOf, rowsOf, four, rowSizes, rowsSizes, LaidAt};
 
 // "E3h", the first byte of a long pack.
@@ -145,6 +146,30 @@ fn lay_row(s: &[u8; 9000], at: usize, len: usize, us: &mut [u8; 9360], to: usize
     four75(s, at + 1200, len, us, to + 1260);
 }
 
+// A row behind the string's end, "All other user bytes are FFh": one loop of constant length is faster than 24 packs of fill.
+fn fill_row(us: &mut [u8; 9360], to: usize)
+    requires { ⌜ to + 1560 ≤ 9360 ⌝ }
+    ensures { λ _. ⌜ now (us .exit) ≡ sets (now (us .entry)) to (fill 1560) ⌝ }
+{
+    let mut i = 0;
+    while i < 1560 {
+        us[to + i] = 0xFF;
+        i += 1;
+    }
+}
+
+// A row of packs, or of fill where no string byte is left.
+fn lay_or_fill(s: &[u8; 9000], at: usize, len: usize, us: &mut [u8; 9360], to: usize)
+    requires { ⌜ (at + 1488 ≤ 9000) × (len < 9000) × (to + 1560 ≤ 9360) ⌝ }
+    ensures { λ _. ⌜ LaidAt rowSizes (now (s .entry)) len at to (now (us .entry)) (now (us .exit)) ⌝ }
+{
+    if at >= len {
+        fill_row(us, to);
+        return;
+    }
+    lay_row(s, at, len, us, to);
+}
+
 // Row after row: 1,488 string bytes into 1,560 user bytes each time.
 fn lay_rows(rows: usize, s: &[u8; 9000], len: usize, us: &mut [u8; 9360])
     requires { ⌜ (rows ≤ 6) × (len < 9000) ⌝ }
@@ -154,7 +179,7 @@ fn lay_rows(rows: usize, s: &[u8; 9000], len: usize, us: &mut [u8; 9360])
     let mut at = 0;
     let mut to = 0;
     while 0 < left {
-        lay_row(s, at, len, us, to);
+        lay_or_fill(s, at, len, us, to);
         at += 1488;
         to += 1560;
         left -= 1;

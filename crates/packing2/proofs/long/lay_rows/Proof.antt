@@ -23,8 +23,8 @@ abbrev μ-loop : tie.MeasureT-loop
 loop-holds : tie.Need-loop-holds Inv-loop μ-loop
 loop-holds c = (search needs, search needs, record { is = λ _. refl })
 
-lay-row-requires : tie.Need-lay-row-requires Inv-loop μ-loop
-lay-row-requires c κs = search needs
+lay-or-fill-requires : tie.Need-lay-or-fill-requires Inv-loop μ-loop
+lay-or-fill-requires c κs = search needs
 
 add-at : tie.Need-add-at Inv-loop μ-loop
 add-at c = search needs
@@ -41,7 +41,7 @@ loop-less c = search needs
 loop-again : tie.Need-loop-again Inv-loop μ-loop
 loop-again c =
     let l = c .before .before .before .loop in
-    (omega arith, omega arith, rows-turn (l .left) (c .before .before .loop-test .taken) (l .inv .2) (c .lay-row .ensures))
+    (omega arith, omega arith, rows-turn (l .left) (c .before .before .loop-test .taken) (l .inv .2) (c .lay-or-fill .ensures))
 
 returns : tie.Need-returns Inv-loop μ-loop
 returns c = record { is = rows-end (c .before .loop .left) (c .loop-test .left) (c .before .loop .inv .2) }
@@ -53,7 +53,7 @@ lay-rows-spec =
     Inv-loop
     μ-loop
     loop-holds
-    lay-row-requires
+    lay-or-fill-requires
     add-at
     add-to
     sub-left

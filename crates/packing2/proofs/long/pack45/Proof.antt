@@ -1,9 +1,10 @@
 -- `packing2::long::pack45` meets its contract. The loop's invariant: behind the pack's three bytes stand i bytes of the buffer. Assumes nothing.
 use Prim.Native.Nat.{_-_, _≤_}
 use mathlib.Core.Path.{refl, sym}
+use mathlib.Core.List.{[], _∷_}
 use native.Mathlib.Omega.{arith}
 use borrow.Author.Needs.{needs}
-use Rattle.packing2.proofs.LongLaws.{pack-none, Filling, fill-none, fill-turn, fill-end}
+use Rattle.packing2.proofs.LongLaws.{packs-none, Filling, fill-none, fill-turn, fill-end}
 use Rattle.packing2.proofs.long.pack45.Statement.{statement}
 use Rattle.packing2.proofs.long.pack45.Tie as tie
 
@@ -14,7 +15,7 @@ abbrev μ-loop : tie.MeasureT-loop
 μ-loop s at len a₀ i₀ a i = 42 - i
 
 returns : tie.Need-returns Inv-loop μ-loop
-returns c = λ p. sym (pack-none 45 (c .before .args .s .now) (c .before .args .at) (c .before .args .len) (omega arith) p (omega arith))
+returns c = λ _. sym (packs-none (45 ∷ []) (c .before .args .s .now) (c .before .args .at) (c .before .args .len) (omega arith))
 
 array-write-a : tie.Need-array-write-a Inv-loop μ-loop
 array-write-a c = search needs
