@@ -187,7 +187,7 @@ fn lay_rows(rows: usize, s: &[u8; 9000], len: usize, us: &mut [u8; 9360])
 }
 
 // "Sequences per channel (n)", two to a row; no rows where "system not 1 to 3".
-pub fn rows_of(system: u64) -> usize
+pub(crate) fn rows_of(system: u64) -> usize
     ensures { λ r. ⌜ (r ≡ rowsOf system) × (r ≤ 6) ⌝ }
 {
     if system == 1 {
