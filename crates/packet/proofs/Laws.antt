@@ -135,10 +135,6 @@ pub sum9-part : (n at m : ℕ) (ws : List ℕ) (r : Pass) → r ≡ passOf (take
 sum9-part n at m ws r e f =
     rw (e, ← f) (sym (sum9-append (take n (drop at ws)) (drop (at + n) ws)) ∙ ap sum9 (part-joined n at ws))
 
-pub sum9-within : (ws : List ℕ) → sum9 ws ≤ 511 * length ws
-sum9-within [] = omega arith
-sum9-within (w ∷ ws) = omega (arith, sum9-within ws)
-
 -- 258 × 511 = 131,838 for the words of a packet
 pub sum9-most : (n : ℕ) (ws : List ℕ) → sum9 (take n ws) ≤ 511 * n
 sum9-most zero ws = omega arith

@@ -1,10 +1,9 @@
 -- What a pass over the words of a packet finds, in the terms of the rules.
 -- Assumes nothing.
-use Prim.Native.Nat.{ℕ, zero, suc, _*_, _%_, _≤_}
+use Prim.Native.Nat.{ℕ, zero, suc, _%_}
 use mathlib.Core.Path.{_≡_}
 use mathlib.Core.Bool.{true}
 use mathlib.Core.List.{List, [], _∷_}
-use lib.ListN.{length}
 use Rattle.rules.specs.Packet.{word, sum9}
 use Rattle.rules.specs.Laying.{areWords}
 use Rattle.packet.specs.declared.Pass.{Pass}
@@ -31,4 +30,3 @@ wordTable = wordsFrom 0 256
 pub record Passed (table ws : List ℕ) (r : Pass) : Type 0 where
   pub words : table ≡ wordTable → r .words ≡ areWords ws
   pub sum : r .words ≡ true → r .sum ≡ sum9 ws
-  pub most : r .sum ≤ 511 * length ws

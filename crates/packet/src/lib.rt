@@ -100,7 +100,7 @@ pub fn check_of(ws: &[u16]) -> u16
     check_word(run_of(ws).sum)
 }
 
-// The words of all bytes, to look a few words up in: that takes a third of the time of computing each.
+// The words of all bytes, to look a few words up in: that takes a third of the instructions of computing each.
 pub fn words() -> [u16; 256]
     ensures { λ r. ⌜ r ≡ wordTable ⌝ }
 {

@@ -49,7 +49,6 @@ returns c =
       words = λ h.
           sym (looked-wrong (a .table .now) (d .loop .at) _ (a .ws .now) more (p .low-byte .ensures) h (c .if1 .taken)) ∙ d .loop .inv .3 h;
       sum = λ h. never (cc);
-      most = omega arith;
     }
 
 low-nine-requires : tie.Need-low-nine-requires Inv-loop μ-loop
@@ -86,7 +85,6 @@ returns-2 c =
     record {
       words = λ h. sym (words-end true (l .at) ws (c .loop-test .left)) ∙ l .inv .3 h;
       sum = λ h. omega arith;
-      most = omega arith;
     }
 
 pub looked-up-spec : {M : Type 1} → statement M

@@ -2,7 +2,6 @@
 use mathlib.Core.Path.{ap}
 use borrow.Author.Needs.{needs}
 use Rattle.packet.specs.declared.Pass.{Pass}
-use Rattle.packet.proofs.Laws.{sum9-within}
 use Rattle.packet.proofs.pass_by.Statement.{statement}
 use Rattle.packet.proofs.pass_by.Tie as tie
 
@@ -18,8 +17,7 @@ pass-of-requires c κs = search needs
 returns-2 : tie.Need-returns-2
 returns-2 c =
     let e = c .pass-of .ensures in
-    let ws = c .before .before .before .args .ws .now in
-    record { words = λ h. ap (λ (r : Pass). r .words) e; sum = λ h. ap (λ (r : Pass). r .sum) e; most = rw e (sum9-within ws) }
+    record { words = λ h. ap (λ (r : Pass). r .words) e; sum = λ h. ap (λ (r : Pass). r .sum) e }
 
 pub pass-by-spec : {M : Type 1} → statement M
 pass-by-spec = tie.close (tie.spec looked-up-requires returns pass-of-requires returns-2)
