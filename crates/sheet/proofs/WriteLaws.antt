@@ -9,8 +9,8 @@ use mathlib.Core.Bool.{Bool, true, false, cond, _||_}
 use mathlib.Core.List.{List, [], _∷_, _++_, append-nil}
 use native.Mathlib.Omega.{arith}
 use lib.Dec.{eqb, ltb}
-use lib.ListN.{length, getD, drop, length-append, length-drop, drop-of-length-le}
-use lib.Seq.{length-take-le, getD-drop, drop-drop}
+use lib.ListN.{length, getD, take, drop, length-append, length-drop, drop-of-length-le}
+use lib.Seq.{length-take-le, getD-take, getD-drop, drop-drop}
 use borrow.Author.Tests.{ltb-false, lt-ltb, le-ltb}
 use Rattle.rules.specs.Base.{All}
 use Rattle.rules.specs.Systems.{System}
@@ -155,25 +155,35 @@ module _ (s : List ℕ) (at dc : ℕ) (e : dc ≡ getD s (at + 5) 0) where
   rest-at : drop (sizeIn (drop at s)) (drop at s) ≡ drop (at + (dc + 7)) s
   rest-at = rw size-at (drop-drop (dc + 7) at s)
 
-module _ (s : List ℕ) (at k : ℕ) where
+-- the string is the front of a longer run
+module _ (us : List ℕ) (end at k : ℕ) (inside : end ≤ length us) where
+  abbrev s : List ℕ
+  s = take end us
+
   abbrev here : ℕ
   here = countFrom k (shown (drop at s))
 
-  pub measure-none : length s - at ≡ 0 → k ≡ here
-  measure-none h = rw (shown-none (drop at s) (length-drop at s ∙ h)) (omega arith)
+  left : length (drop at s) ≡ end - at
+  left = length-drop at s ∙ ap (λ (n : ℕ). n - at) (length-take-le end us inside)
 
-  pub measure-few : (length s - at ≡ 0 → ⊥) → length s - at < 7 → 65536 ≡ here
-  measure-few n h = let l = length-drop at s in rw (shown-few (drop at s) (omega arith) (omega arith))
+  pub measure-none : end - at ≡ 0 → k ≡ here
+  measure-none h = rw (shown-none (drop at s) (left ∙ h)) (omega arith)
 
-  module _ (dc : ℕ) (e : dc ≡ getD s (at + 5) 0) (h : 7 ≤ length s - at) where
-    pub measure-cut : length s - at < dc + 7 → 65536 ≡ here
-    measure-cut c = let l = length-drop at s in let z = size-at s at dc e in rw (shown-cut (drop at s) (omega arith) (omega arith))
+  pub measure-few : (end - at ≡ 0 → ⊥) → end - at < 7 → 65536 ≡ here
+  measure-few n h = let l = left in rw (shown-few (drop at s) (omega arith) (omega arith))
 
-    pub measure-more : (r : ℕ) → dc + 7 ≤ length s - at → r ≡ countFrom (k + 1) (shown (drop (at + (dc + 7)) s)) → r ≡ here
+  module _ (dc : ℕ) (e : dc ≡ getD us (at + 5) 0) (h : 7 ≤ end - at) where
+    dc-is : dc ≡ getD s (at + 5) 0
+    dc-is = e ∙ sym (getD-take end us (at + 5) 0 (omega arith))
+
+    pub measure-cut : end - at < dc + 7 → 65536 ≡ here
+    measure-cut c = let l = left in let z = size-at s at dc dc-is in rw (shown-cut (drop at s) (omega arith) (omega arith))
+
+    pub measure-more : (r : ℕ) → dc + 7 ≤ end - at → r ≡ countFrom (k + 1) (shown (drop (at + (dc + 7)) s)) → r ≡ here
     measure-more r c q =
-        let l = length-drop at s in
-        let z = size-at s at dc e in
-        q ∙ ap (λ (t : List ℕ). countFrom (k + 1) (shown t)) (sym (rest-at s at dc e)) ∙ count-more k (drop at s) (omega arith) (omega arith)
+        let l = left in
+        let z = size-at s at dc dc-is in
+        q ∙ ap (λ (t : List ℕ). countFrom (k + 1) (shown t)) (sym (rest-at s at dc dc-is)) ∙ count-more k (drop at s) (omega arith) (omega arith)
 
 -- ---- whole packets
 

@@ -4,7 +4,7 @@
 -- Assumes nothing.
 use Prim.Native.Nat.{ℕ, _+_, _*_, _<_}
 use mathlib.Core.Path.{_≡_}
-use mathlib.Core.Bool.{Bool, true, false, cond, _&&_, _||_}
+use mathlib.Core.Bool.{Bool, true, false, cond, _||_}
 use mathlib.Core.List.{List, [], _∷_, _++_}
 use lib.Dec.{ltb, leb}
 use lib.ListN.{length, getD, drop}
@@ -38,30 +38,29 @@ shown s = packetsIn shownRow (length s) 0 s
 
 -- ---- the numbers written
 
--- W is a 16-bit number, and the sheet is not longer than its buffer
-abbrev pub hasRoom : ℕ → ℕ → ℕ → List Packet → Bool
-hasRoom sys bytes room ps = leb bytes 65535 && leb (length (sheetOf sys ps)) room
+-- the sheet is not longer than its buffer
+abbrev pub hasRoom : ℕ → ℕ → List Packet → Bool
+hasRoom sys room ps = leb (length (sheetOf sys ps)) room
 
--- the numbers of the sheet of a list in so many bytes, into a buffer of `room` numbers
-abbrev pub wroteOf : ℕ → ℕ → ℕ → Outcome → ℕ
-wroteOf sys bytes room (listed ps) = cond (hasRoom sys bytes room ps) (length (sheetOf sys ps)) 0
-wroteOf sys bytes room (refused n i) = 0
+-- the numbers of the sheet of a list, into a buffer of `room` numbers
+abbrev pub wroteOf : ℕ → ℕ → Outcome → ℕ
+wroteOf sys room (listed ps) = cond (hasRoom sys room ps) (length (sheetOf sys ps)) 0
+wroteOf sys room (refused n i) = 0
 
 -- how many numbers are written of the sheet of a string's packets; 0 for none
 unfoldable pub wrote : ℕ → List ℕ → ℕ → ℕ
-wrote sys s room = wroteOf sys (length s) room (shown s)
+wrote sys s room = wroteOf sys room (shown s)
 
 -- ---- the buffer afterwards
 
 -- the sheet, and the buffer past it; or the buffer as it was
-abbrev pub afterOf : ℕ → ℕ → List ℕ → Outcome → List ℕ
-afterOf sys bytes buffer (listed ps) =
-    cond (hasRoom sys bytes (length buffer) ps) (sheetOf sys ps ++ drop (length (sheetOf sys ps)) buffer) buffer
-afterOf sys bytes buffer (refused n i) = buffer
+abbrev pub afterOf : ℕ → List ℕ → Outcome → List ℕ
+afterOf sys buffer (listed ps) = cond (hasRoom sys (length buffer) ps) (sheetOf sys ps ++ drop (length (sheetOf sys ps)) buffer) buffer
+afterOf sys buffer (refused n i) = buffer
 
 -- "On success the sheet buffer past the sheet is unchanged."
 unfoldable pub sheetAfter : ℕ → List ℕ → List ℕ → List ℕ
-sheetAfter sys s buffer = afterOf sys (length s) buffer (shown s)
+sheetAfter sys s buffer = afterOf sys buffer (shown s)
 
 -- ---- what the parts of the writing say
 
@@ -85,7 +84,7 @@ pub record Measured (packets : ℕ) (s out : List ℕ) : Type 0 where
   pub few : length s < 65536
   pub room : length out ≡ 4 + 2 * packets + length s
 
--- k packets, and those of a list; of a refusal 65,536, which no count of packets in 65,535 bytes is
+-- k packets, and those of a list; of a refusal 65,536, which no count of packets in a frame's user bytes is
 abbrev pub countFrom : ℕ → Outcome → ℕ
 countFrom k (listed ps) = k + length ps
 countFrom k (refused n i) = 65536

@@ -5,13 +5,16 @@ use frame::wide;
 ghost use mathlib.Core.Path.{_≡_};
 ghost use mathlib.Core.List.{List, map};
 ghost use Prim.Native.Nat.{ℕ, _*_, _≤_, _<_};
-ghost use lib.ListN.{length, drop};
+ghost use lib.ListN.{length, take, drop};
 ghost use Rattle.rules.specs.Packet.{word, words};
 ghost use Rattle.rules.specs.Sheet.{locations, allWords, sheetOf};
 ghost use Rattle.rules.specs.Reading.{lineOf, packetOfBytes};
 ghost use Rattle.sheet.specs.Write.{sizeIn, shown, wrote, sheetAfter, packetsShown, Whole, Measured, countFrom};
 
-// What `measure` answers where the bytes are not whole packets: no count of packets in 65,535 bytes.
+// No system has more user bytes, so no string is longer.
+const LONGEST: usize = 9360;
+
+// What `measure` answers where the bytes are not whole packets: no count of packets in 9,360 bytes.
 const NOT_WHOLE: usize = 65536;
 
 // A sheet has a line's number alone.
@@ -21,24 +24,24 @@ fn line_of(h0: u8, h1: u8) -> u16
     danc::line_of(h0, h1).0
 }
 
-// "A string is nothing, or one packet and then a string that is shorter by that packet": how many packets stand from `at` on, and k
-// before them. The bytes left fall at each call.
-fn measure(s: &[u8], at: usize, k: usize) -> usize
-    requires { ⌜ (k ≤ at) × (at ≤ length (now s)) ⌝ }
-    ensures { λ r. ⌜ r ≡ countFrom k (shown (drop at (now (s .entry)))) ⌝ }
+// "A string is nothing, or one packet and then a string that is shorter by that packet": how many packets stand from `at` to `end`, and
+// k before them. The bytes left fall at each call. Over an array, and with a number as answer, the calls become a loop.
+fn measure(us: &[u8; 9360], end: usize, at: usize, k: usize) -> usize
+    requires { ⌜ (length (now us) ≡ 9360) × (end ≤ 9360) × (k ≤ at) × (at ≤ end) ⌝ }
+    ensures { λ r. ⌜ r ≡ countFrom k (shown (drop at (take end (now (us .entry))))) ⌝ }
 {
-    let left = s.len() - at;
+    let left = end - at;
     if left == 0 {
         return k;
     }
     if left < 7 {
         return NOT_WHOLE;
     }
-    let size = wide(s[at + 5]) + 7;
+    let size = wide(us[at + 5]) + 7;
     if left < size {
         return NOT_WHOLE;
     }
-    measure(s, at + size, k + 1)
+    measure(us, end, at + size, k + 1)
 }
 
 // "P pairs: line .. and flags"; "Packet k belongs to location k".
@@ -115,23 +118,33 @@ fn write_sections(system: u16, packets: usize, s: &[u8], out: &mut [u16])
     write_packets(s, &mut out[mid + 1..]);
 }
 
-// The sheet of a string's packets at the start of a buffer; its numbers are counted. 0, and nothing written, where the bytes are not
-// whole packets, where W would be no 16-bit number, or where the sheet is longer than the buffer: "A sheet has 4 + 2P + W numbers".
-pub fn write_sheet(system: u16, string: &[u8], sheet: &mut [u16]) -> usize
-    ensures { λ r. ⌜ r ≡ wrote system (now (string .entry)) (length (now (sheet .entry))) ⌝ }
-    ensures { λ r. ⌜ now (sheet .exit) ≡ sheetAfter system (now (string .entry)) (now (sheet .entry)) ⌝ }
+// A string cannot end past the array that it is the front of: an `end` there is the array's own.
+fn within(end: usize) -> usize
+    ensures { λ r. ⌜ (r ≤ 9360) × ((s : List ℕ) → length s ≡ 9360 → take r s ≡ take end s) ⌝ }
 {
-    if string.len() > 65535 {
-        return 0;
+    if end < LONGEST {
+        return end;
     }
-    let packets = measure(string, 0, 0);
+    LONGEST
+}
+
+// The sheet of the packets of a string, which is `us` up to `end`, at the start of a buffer; its numbers are counted. 0, and nothing
+// written, where the bytes are not whole packets, or where the sheet is longer than the buffer: "A sheet has 4 + 2P + W numbers".
+pub fn write_sheet(system: u16, us: &[u8; 9360], end: usize, sheet: &mut [u16]) -> usize
+    ensures { λ r. ⌜ r ≡ wrote system (take end (now (us .entry))) (length (now (sheet .entry))) ⌝ }
+    ensures { λ r. ⌜ now (sheet .exit) ≡ sheetAfter system (take end (now (us .entry))) (now (sheet .entry)) ⌝ }
+{
+    // lent whole, which tells the proof its length
+    let whole = &us[..];
+    let bytes = within(end);
+    let packets = measure(us, bytes, 0, 0);
     if packets == NOT_WHOLE {
         return 0;
     }
-    let n = 4 + 2 * packets + string.len();
+    let n = 4 + 2 * packets + bytes;
     if sheet.len() < n {
         return 0;
     }
-    write_sections(system, packets, string, &mut sheet[..n]);
+    write_sections(system, packets, &whole[..bytes], &mut sheet[..n]);
     n
 }

@@ -10,7 +10,7 @@ use native.Mathlib.Nat.{sub-zero}
 use native.Mathlib.Omega.{arith}
 use lib.Dec.{eqb, leb}
 use lib.ListN.{length, getD, take, drop, length-append, length-take}
-use lib.Seq.{length-take-le, take-take, take-at}
+use lib.Seq.{take-take, take-at}
 use borrow.Author.Tests.{eqb-true, le-leb, eq-eqb, ne-eqb}
 use Rattle.rules.specs.Base.{allIs, sum, Bytes}
 use Rattle.rules.specs.Systems.{System, known, system}
@@ -26,6 +26,7 @@ use Rattle.rules.specs.Demands.{Reads}
 use Rattle.rules.specs.declared.ReadBack.{ReadBack}
 use Rattle.rules.proofs.Basics.{never, take-bytes}
 use Rattle.rules.proofs.Sheets.{sheet-length}
+use Rattle.rules.proofs.Long.{long-bytes}
 use Rattle.rules.proofs.Strings.{StringOf, string-laid, string-room}
 use Rattle.rules.proofs.Blocks.{gather-length, facts-of}
 use Rattle.rules.proofs.Reading.{reads}
@@ -43,7 +44,7 @@ use Rattle.vanc.specs.Read.{Back, Coded}
 
 -- ---- 17
 
-module _ (sys k : ℕ) (ps : List Packet) (s sheet after : List ℕ) (n : ℕ) (e : shown s ≡ listed ps) (h : length s ≤ 9360)
+module _ (sys k : ℕ) (ps : List Packet) (s sheet after : List ℕ) (n : ℕ) (e : shown s ≡ listed ps)
     (w : n ≡ wrote sys s (length sheet)) (a : after ≡ sheetAfter sys s sheet) where
   abbrev roomy : Bool
   roomy = leb (length (sheetOf sys ps)) (length sheet)
@@ -53,11 +54,11 @@ module _ (sys k : ℕ) (ps : List Packet) (s sheet after : List ℕ) (n : ℕ) (
 
   number-is : n ≡ cond roomy (length (sheetOf sys ps)) 0
   unfolding wrote
-  number-is = w ∙ rw (e, le-leb (length s) 65535 (omega arith))
+  number-is = w ∙ rw e
 
   after-is : after ≡ cond roomy whole sheet
   unfolding sheetAfter
-  after-is = a ∙ rw (e, le-leb (length s) 65535 (omega arith))
+  after-is = a ∙ rw e
 
   -- nothing is written: every sheet has numbers, so there is no room for it
   pub no-room : n ≡ 0 → (r : ReadBack) → r ≡ readBackOf 0 0 (refused 17 0) → Back sys k sheet (listed ps) r after
@@ -132,38 +133,33 @@ module _ {A : Type 0} (row : Row A) where
 -- ---- the number of an outcome
 
 module _ (code : ℕ) (us : List ℕ) where
-  pub code-refused : (o : Outcome) → Coded o code us → 1073741824 ≤ code → o ≡ refused ((code - 1073741824) / 1024) ((code - 1073741824) % 1024)
-  code-refused (listed ps) w h =
+  pub code-refused : length us ≡ 9360 → (o : Outcome) → Coded o code us → 1073741824 ≤ code → o ≡ refused ((code - 1073741824) / 1024) ((code - 1073741824) % 1024)
+  code-refused long (listed ps) w h =
       let a = w .answer in
       let f = w .few ps refl in
       let s = w .short ps refl in
       absurd (omega arith)
-  code-refused (refused n i) w h =
+  code-refused long (refused n i) w h =
       let a = w .answer in
       let p = w .place n i refl in
       let x : (code - 1073741824) / 1024 ≡ n = omega arith in
       let y : (code - 1073741824) % 1024 ≡ i = omega arith in
       rw (x, y)
 
-  pub code-listed : (o : Outcome) → Coded o code us → code < 1073741824
-      → (ps : List Packet) × (o ≡ listed ps) × (code % 1024 ≡ length ps) × (shown (take (code / 1024) us) ≡ listed ps) × (code / 1024 ≤ 9360)
+  code-listed : (o : Outcome) → Coded o code us → code < 1073741824
+      → (ps : List Packet) × (o ≡ listed ps) × (code % 1024 ≡ length ps) × (shown (take (code / 1024) us) ≡ listed ps)
   code-listed (refused n i) w h = let a = w .answer in absurd (omega arith)
   code-listed (listed ps) w h =
       let a = w .answer in
       let f = w .few ps refl in
-      let s = w .short ps refl in
       let x : code / 1024 ≡ stringBytes ps = omega arith in
-      (ps, refl, omega arith, rw x (w .string ps refl), omega arith)
+      (ps, refl, omega arith, rw x (w .string ps refl))
 
 -- a number's list
 pub back-listed : (sys k : ℕ) (sheet : List ℕ) (o : Outcome) (code : ℕ) (us : List ℕ) (r : ReadBack) (after : List ℕ) → Coded o code us → code < 1073741824
     → ((ps : List Packet) → shown (take (code / 1024) us) ≡ listed ps → code % 1024 ≡ length ps → Back sys k sheet (listed ps) r after)
     → Back sys k sheet o r after
 back-listed sys k sheet o code us r after w h made = let v = code-listed code us o w h in back-of refl (v .1) (made (v .0) (v .3) (v .2))
-
--- the string's end is a place of the bytes
-pub code-fits : (o : Outcome) (code : ℕ) (us : List ℕ) → Coded o code us → code < 1073741824 → code / 1024 ≤ 9360
-code-fits o code us w h = code-listed code us o w h .4
 
 -- ---- packs of 5
 
@@ -194,9 +190,9 @@ module _ (y : System) (us : List ℕ) (total : ℕ) where
       go true true e = let l = row-few (packRow y) limit 0 (fives (take total us)) ps e in let m = limit-is in omega arith
 
   -- what opening leaves
-  pub fives-coded : y .last < 2047 → (code : ℕ) (after : List ℕ) → length after ≡ 9360 → Opens y (packetsOfFives y us total) code after
+  pub fives-coded : y .last < 2047 → (code : ℕ) (after : List ℕ) → Opens y (packetsOfFives y us total) code after
       → Coded (packetsOfFives y us total) code after
-  fives-coded hm code after long w =
+  fives-coded hm code after w =
       record {
         answer = w .answer;
         place = fives-place;
@@ -218,21 +214,20 @@ valid-code : (o : Outcome) → validCode 0 0 o ≡ codeOf o
 valid-code (listed ps) = omega arith
 valid-code (refused n i) = refl
 
-module _ (y : System) (hm : y .last < 2047) (us : List ℕ) (len room code : ℕ) (b : Bytes us) (most : len ≤ 8928) (long : length us ≡ 9360)
+module _ (y : System) (hm : y .last < 2047) (us : List ℕ) (len room code : ℕ) (b : Bytes (take len us))
     (v : code ≡ validated y room (take len us) 0 0) where
   abbrev walked : Outcome
   walked = packetsIn (stringRow y room) limit 0 (take len us)
 
   module _ (ps : List Packet) (e : walked ≡ listed ps) where
     laid : StringOf y room limit (take len us) ps
-    laid = string-laid y room limit 0 (take len us) ps (take-bytes len us b) e
+    laid = string-laid y room limit 0 (take len us) ps b e
 
     laid-bytes : length (string (laid .items)) ≡ stringBytes ps
     laid-bytes = string-room (laid .items) ∙ ap stringBytes (laid .packets)
 
-    laid-short : stringBytes ps ≤ len
+    laid-short : stringBytes ps ≤ length (take len us)
     laid-short =
-        let l : length (take len us) ≡ len = length-take-le len us (omega arith) in
         let m = ap length (laid .whole) in
         let n = length-append (string (laid .items)) (laid .tail) in
         let k = laid-bytes in
@@ -240,7 +235,7 @@ module _ (y : System) (hm : y .last < 2047) (us : List ℕ) (len room code : ℕ
 
     laid-front : take (stringBytes ps) us ≡ string (laid .items)
     laid-front =
-        sym (take-take (stringBytes ps) len us laid-short)
+        sym (take-take (stringBytes ps) len us (let l = laid-short in let m = length-take len us in omega arith))
         ∙ ap (take (stringBytes ps)) (laid .whole)
         ∙ take-at (string (laid .items)) (laid .tail) (stringBytes ps) laid-bytes
 
@@ -251,7 +246,7 @@ module _ (y : System) (hm : y .last < 2047) (us : List ℕ) (len room code : ℕ
         answer = v ∙ ap (λ (n : ℕ). validCode 0 0 (packetsIn (stringRow y room) n 0 (take len us))) (sub-zero limit) ∙ valid-code walked;
         place = λ n i e. let l = row-place (stringRow y room) limit 0 (take len us) n i e in let m = limit-is in omega arith;
         few = λ ps e. let l = row-few (stringRow y room) limit 0 (take len us) ps e in let m = limit-is in omega arith;
-        short = λ ps e. let l = laid-short ps e in omega arith;
+        short = λ ps e. let l = laid-short ps e in let m = length-take len us in omega arith;
         string = λ ps e. ap shown (laid-front ps e) ∙ shown-string y hm (laid ps e .items) (laid ps e .good) ∙ ap listed (laid ps e .packets);
       }
 
@@ -266,6 +261,13 @@ long-open y o r us w z = ap (packetsOfOpened y) (answer-some o r us w z .0)
 
 pub long-len : (o : Opened) (r : ℕ) (us : List ℕ) → Answer o r us → (r ≡ 0 → ⊥) → r / 128 ≤ 8928
 long-len o r us w z = answer-some o r us w z .1
+
+-- the string is bytes, as the user bytes are
+pub long-string : (sys : ℕ) → known sys ≡ true → (us : List ℕ) → Bytes us → (r : ℕ) (after : List ℕ) → Answer (openedFrom sys us) r after → (r ≡ 0 → ⊥)
+    → Bytes (take (r / 128) after)
+long-string sys k us b r after w z =
+    long-bytes (blockSizes (system sys)) (take (sum (blockSizes (system sys))) us) (take (r / 128) after) (r % 128) (facts-of sys k .roomy)
+    (take-bytes (sum (blockSizes (system sys))) us b) (answer-some (openedFrom sys us) r after w z .0)
 
 -- the bounds of validation
 pub long-within : (len : ℕ) → len ≤ 8928 → Within len 0 0

@@ -34,5 +34,5 @@ pub record Coded (o : Outcome) (code : ℕ) (us : List ℕ) : Type 0 where
   pub answer : code ≡ codeOf o
   pub place : (n i : ℕ) → o ≡ refused n i → i < 1024
   pub few : (ps : List Packet) → o ≡ listed ps → length ps < 1024
-  pub short : (ps : List Packet) → o ≡ listed ps → stringBytes ps ≤ 9360
+  pub short : (ps : List Packet) → o ≡ listed ps → stringBytes ps ≤ length us
   pub string : (ps : List Packet) → o ≡ listed ps → shown (take (stringBytes ps) us) ≡ listed ps

@@ -4,19 +4,17 @@ use rules::ReadBack;
 ghost use mathlib.Core.Path.{_≡_};
 ghost use mathlib.Core.Bool.{true};
 ghost use mathlib.Core.List.{List};
-ghost use Prim.Native.Nat.{_/_, _%_, _≤_, _<_};
+ghost use Prim.Native.Nat.{_≤_, _<_};
 ghost use lib.ListN.{length, take};
-ghost use Rattle.rules.specs.Base.{sum};
+ghost use Rattle.rules.specs.Base.{sum, Bytes};
 ghost use Rattle.rules.specs.Systems.{System, known, system as systemOf};
 ghost use Rattle.rules.specs.Packet.{Packet};
-ghost use Rattle.rules.specs.Sheet.{limit};
 ghost use Rattle.rules.specs.Blocks.{blockSizes};
-ghost use Rattle.rules.specs.Numbers.{Outcome, listed, refused, packetsIn};
-ghost use Rattle.rules.specs.Reading.{readBackOf, stringRow, packetsOfOpened, packetsOfUserBytes, packingFound};
+ghost use Rattle.rules.specs.Numbers.{Outcome, listed, refused};
+ghost use Rattle.rules.specs.Reading.{readBackOf, packetsOfOpened, packetsOfUserBytes, packingFound};
 ghost use Rattle.rules.specs.Demands.{Reads};
 ghost use Rattle.sheet.specs.Write.{shown};
 ghost use Rattle.packing1.specs.Open.{packetsOfFives};
-ghost use Rattle.danc.specs.Validated.{validated};
 ghost use Rattle.packing2.specs.Unlong.{openedFrom};
 ghost use Rattle.vanc.specs.Read.{Back, Coded};
 
@@ -45,12 +43,19 @@ fn narrow(system: u64) -> u16
 }
 
 // "17 | the sheet is longer than its buffer": known only once the list is. On refusal the buffer "is unchanged".
-fn written(system: u64, packing: u64, packets: u64, string: &[u8], sheet: &mut [u16]) -> ReadBack
-    requires { ⌜ (system ≤ 3) × (length (now string) ≤ 9360) ⌝ }
-    ensures { λ r. ⌜ ((ps : List Packet) → shown (now (string .entry)) ≡ listed ps → packets ≡ length ps
+fn written(
+    system: u64,
+    packing: u64,
+    packets: u64,
+    us: &[u8; 9360],
+    end: usize,
+    sheet: &mut [u16],
+) -> ReadBack
+    requires { ⌜ system ≤ 3 ⌝ }
+    ensures { λ r. ⌜ ((ps : List Packet) → shown (take end (now (us .entry))) ≡ listed ps → packets ≡ length ps
         → Back system packing (now (sheet .entry)) (listed ps) r (now (sheet .exit))) ⌝ }
 {
-    let numbers = sheet::write_sheet(narrow(system), string, sheet);
+    let numbers = sheet::write_sheet(narrow(system), us, end, sheet);
     if numbers == 0 {
         return refusal(17, 0);
     }
@@ -64,16 +69,18 @@ fn written(system: u64, packing: u64, packets: u64, string: &[u8], sheet: &mut [
 }
 
 // What the packings answer: a refusal and its packet, or how many packets there are and where their string ends in `us`.
-fn decoded(system: u64, packing: u64, code: usize, us: &[u8], sheet: &mut [u16]) -> ReadBack
-    requires { ⌜ (system ≤ 3) × (length (now us) ≡ 9360) × (code < 1073741824 → code / 1024 ≤ 9360) ⌝ }
+fn decoded(system: u64, packing: u64, code: usize, us: &[u8; 9360], sheet: &mut [u16]) -> ReadBack
+    requires { ⌜ system ≤ 3 ⌝ }
     ensures { λ r. ⌜ ((o : Outcome) → Coded o code (now (us .entry)) → Back system packing (now (sheet .entry)) o r (now (sheet .exit))) ⌝ }
 {
+    // lent whole, which tells the proof its length
+    let whole = &us[..];
     if code >= REFUSED {
         let n = code - REFUSED;
         return refusal((n / 1024) as u64, (n % 1024) as u64);
     }
     let end = code / 1024;
-    written(system, packing, (code % 1024) as u64, &us[..end], sheet)
+    written(system, packing, (code % 1024) as u64, us, end, sheet)
 }
 
 // "Or it is E1h": packs of 5 (001, 4.1.1).
@@ -92,27 +99,9 @@ fn read_fives(
     decoded(system, 1, code, us, sheet)
 }
 
-// "the string bytes of all packs are walked": `code` is what the walk gave of as many as `opened` has 128s, where the rest of `opened` is how
-// many the last pack has room for.
-fn read_string(
-    system: u64,
-    last: Line,
-    opened: usize,
-    code: usize,
-    us: &[u8],
-    sheet: &mut [u16],
-) -> ReadBack
-    requires { ⌜ (system ≤ 3) × (last .0 < 2047) × (length (now us) ≡ 9360) × (opened / 128 ≤ 8928) ⌝ }
-    requires { ⌜ ((y : System) → y .last ≡ last .0 → code ≡ validated y (opened % 128) (take (opened / 128) (now us)) 0 0) ⌝ }
-    ensures { λ r. ⌜ ((y : System) → y .last ≡ last .0 → Back system 2 (now (sheet .entry))
-        (packetsIn (stringRow y (opened % 128)) limit 0 (take (opened / 128) (now (us .entry)))) r (now (sheet .exit))) ⌝ }
-{
-    decoded(system, 2, code, us, sheet)
-}
-
-// "Or it is E3h": long packs (001, 4.1.2).
+// "Or it is E3h": long packs (001, 4.1.2). That `us` has bytes is asked, since it is a slice that tells the proof so, and not an array.
 fn read_long(system: u64, last: Line, us: &mut [u8; 9360], sheet: &mut [u16]) -> ReadBack
-    requires { ⌜ (system ≤ 3) × (last .0 < 2047) ⌝ }
+    requires { ⌜ (known system ≡ true) × (last .0 < 2047) × Bytes (now us) ⌝ }
     ensures { λ r. ⌜ ((y : System) → y .last ≡ last .0
         → Back system 2 (now (sheet .entry)) (packetsOfOpened y (openedFrom system (now (us .entry)))) r (now (sheet .exit))) ⌝ }
 {
@@ -120,8 +109,9 @@ fn read_long(system: u64, last: Line, us: &mut [u8; 9360], sheet: &mut [u16]) ->
     if opened == 0 {
         return refusal(13, 0);
     }
+    // "the string bytes of all packs are walked": as many as `opened` has 128s; the rest of it is how many the last pack has room for
     let code = danc::validate(last, opened % 128, us, opened / 128, 0, 0);
-    read_string(system, last, opened, code, us, sheet)
+    decoded(system, 2, code, us, sheet)
 }
 
 // "Refusal 13 is given unless one of these holds. The first user byte in laying order is FFh and so is every other. Or it is E1h, ..
@@ -151,7 +141,7 @@ fn read_users(
     if !danc::all_fill(&s[..total]) {
         return refusal(13, 0);
     }
-    written(system, 0, 0, &s[..0], sheet)
+    written(system, 0, 0, us, 0, sheet)
 }
 
 // "Reading tests 3, 4, 13, then packet by packet 5 (only a 513th), 14, 15, 16, then 17." The user bytes are taken out into `us`.

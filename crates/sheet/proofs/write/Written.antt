@@ -9,7 +9,6 @@ use mathlib.Core.Bool.{false}
 use mathlib.Core.List.{List, [], _∷_, _++_, map, append-assoc, append-nil}
 use native.Mathlib.Omega.{arith}
 use native.Mathlib.Numerals.{add-one, add-three, add-seven}
-use lib.Dec.{leb}
 use lib.ListN.{length, getD, take, drop, set, length-append, length-drop, length-set, length-map, drop-of-length-le, take-append-drop}
 use lib.Seq.{length-take-le, getD-take, getD-drop, drop-cons, drop-drop, take-suc-set, take-at, drop-at, take-all, take-take, append-snoc}
 use borrow.Author.Tests.{lt-leb, le-leb}
@@ -18,7 +17,6 @@ use Rattle.rules.specs.Sheet.{locations, allWords, sheetOf}
 use Rattle.rules.specs.Numbers.{Outcome, listed, refused}
 use Rattle.rules.specs.Reading.{lineOf, flagsOf, packetOfBytes}
 use Rattle.rules.proofs.Sheets.{locations-length}
-use Rattle.rules.proofs.Basics.{second-false}
 use Rattle.rules.proofs.Words.{words-room}
 use Rattle.rules.proofs.Sheets.{sheet-length}
 use Rattle.sheet.specs.Write.{sizeIn, shown, hasRoom, wroteOf, wrote, afterOf, sheetAfter, listIn, packetsShown, Whole, Measured, countFrom}
@@ -386,49 +384,42 @@ module _ (sys : ℕ) (s buffer : List ℕ) where
   Answer n after = (n ≡ wrote sys s (length buffer)) × (after ≡ sheetAfter sys s buffer)
 
   -- nothing is written
-  nothing : (o : Outcome) → shown s ≡ o → ((ps : List Packet) → o ≡ listed ps → hasRoom sys (length s) (length buffer) ps ≡ false) → Answer 0 buffer
+  nothing : (o : Outcome) → shown s ≡ o → ((ps : List Packet) → o ≡ listed ps → hasRoom sys (length buffer) ps ≡ false) → Answer 0 buffer
   unfolding wrote sheetAfter
   nothing (refused n i) e h = rw e (refl, refl)
   nothing (listed ps) e h = rw (e, h ps refl) (refl, refl)
 
-  pub too-long : 65535 < length s → Answer 0 buffer
-  too-long h = nothing (shown s) refl (λ ps e. rw (lt-leb (length s) 65535 h))
-
-  -- where the bytes are whole packets, so many
-  module _ (packets : ℕ) (w : Whole s) (c : packets ≡ length (packetsShown s)) where
-    numbers : length (sheetOf sys (packetsShown s)) ≡ 4 + 2 * packets + length s
+  -- where the bytes are whole packets, and their sheet has n numbers
+  module _ (packets n : ℕ) (w : Whole s) (c : packets ≡ length (packetsShown s)) (m : n ≡ 4 + 2 * packets + length s) where
+    numbers : length (sheetOf sys (packetsShown s)) ≡ n
     numbers =
         let a = sheet-length sys (packetsShown s) in
         let b = words-room (packetsShown s) in
         let d = whole-long s w .same in
         omega arith
 
-    pub no-room : length buffer < 4 + 2 * packets + length s → Answer 0 buffer
+    pub no-room : length buffer < n → Answer 0 buffer
     no-room h = nothing (shown s) refl full
       where
-        full : (ps : List Packet) → shown s ≡ listed ps → hasRoom sys (length s) (length buffer) ps ≡ false
+        full : (ps : List Packet) → shown s ≡ listed ps → hasRoom sys (length buffer) ps ≡ false
         full ps q =
-            let n : length (sheetOf sys ps) ≡ 4 + 2 * packets + length s = ap (λ (o : Outcome). length (sheetOf sys (listIn o))) (sym q) ∙ numbers in
-            second-false (leb (length s) 65535) (leb (length (sheetOf sys ps)) (length buffer)) (lt-leb (length (sheetOf sys ps)) (length buffer) (omega arith))
+            let k : length (sheetOf sys ps) ≡ n = ap (λ (o : Outcome). length (sheetOf sys (listIn o))) (sym q) ∙ numbers in
+            lt-leb (length (sheetOf sys ps)) (length buffer) (omega arith)
 
-    pub all-room : length s ≤ 65535 → 4 + 2 * packets + length s ≤ length buffer → (ys : List ℕ) → ys ≡ sheetOf sys (packetsShown s)
-        → Answer (4 + 2 * packets + length s) (ys ++ drop (4 + 2 * packets + length s) buffer)
+    pub all-room : n ≤ length buffer → (ys : List ℕ) → ys ≡ sheetOf sys (packetsShown s) → Answer n (ys ++ drop n buffer)
     unfolding wrote sheetAfter
-    all-room few h ys q = go (shown s) (packetsShown s) w q numbers
+    all-room h ys q = go (shown s) (packetsShown s) w q numbers
       where
-        go : (o : Outcome) (ps : List Packet) → o ≡ listed ps → ys ≡ sheetOf sys ps → length (sheetOf sys ps) ≡ 4 + 2 * packets + length s
-            → (4 + 2 * packets + length s ≡ wroteOf sys (length s) (length buffer) o)
-            × (ys ++ drop (4 + 2 * packets + length s) buffer ≡ afterOf sys (length s) buffer o)
-        go o ps e q n =
-            rw (e, le-leb (length s) 65535 few, n, le-leb (4 + 2 * packets + length s) (length buffer) h)
-            (refl, ap (λ (t : List ℕ). t ++ drop (4 + 2 * packets + length s) buffer) q)
+        go : (o : Outcome) (ps : List Packet) → o ≡ listed ps → ys ≡ sheetOf sys ps → length (sheetOf sys ps) ≡ n
+            → (n ≡ wroteOf sys (length buffer) o) × (ys ++ drop n buffer ≡ afterOf sys buffer o)
+        go o ps e q k = rw (e, k, le-leb n (length buffer) h) (refl, ap (λ (t : List ℕ). t ++ drop n buffer) q)
 
   -- what `measure` answers
-  module _ (r : ℕ) (e : r ≡ countFrom 0 (shown s)) (few : length s ≤ 65535) where
+  module _ (r : ℕ) (e : r ≡ countFrom 0 (shown s)) (few : length s ≤ 9360) where
     pub not-whole : r ≡ 65536 → Answer 0 buffer
     not-whole h = nothing (shown s) refl many
       where
-        many : (ps : List Packet) → shown s ≡ listed ps → hasRoom sys (length s) (length buffer) ps ≡ false
+        many : (ps : List Packet) → shown s ≡ listed ps → hasRoom sys (length buffer) ps ≡ false
         many ps q =
             let k = whole-long s (q ∙ ap (λ (o : Outcome). listed (listIn o)) (sym q)) .few in
             let l : length (packetsShown s) ≡ length ps = ap (λ (o : Outcome). length (listIn o)) q in

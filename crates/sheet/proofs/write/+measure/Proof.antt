@@ -1,7 +1,6 @@
 -- `write::measure` meets its contract: a law for each return. The measure is the number of bytes left. Assumes nothing.
 use Prim.Native.Nat.{ℕ, _-_, _<_}
 use native.Mathlib.Omega.{arith}
-use lib.ListN.{length}
 use borrow.Author.Needs.{needs}
 use borrow.Fn.Kinds.{In}
 use borrow.Fn.PlainCycle.{Measures, is, falls, and}
@@ -14,7 +13,7 @@ use Rattle.sheet.proofs.write.+measure.{statement}
 use Rattle.sheet.proofs.write.+measure.Tie.{close}
 
 abbrev μ-measure : Measures 1 measure-kinds.ps ℕ
-μ-measure κs a = length (a .0 .now) - a .1 .0
+μ-measure κs a = a .1 .0 - a .1 .1 .0
 
 abbrev measure-at : ℕ → In 1 measure-kinds.ps
 measure-at t = and 1 measure-kinds.ps (is 1 measure-kinds.ps μ-measure t) measure.Pre
@@ -32,18 +31,19 @@ pub +measure-spec : {M : Type 1} → statement M
     (measure-at t)
     measure.Post
     (λ c. search needs)
-    (λ c. let a = c .before .before .args in measure-none (a .s .now) (a .at) (a .k) (omega arith))
-    (λ c. let a = c .before .before .before .args in measure-few (a .s .now) (a .at) (a .k) (c .before .if1 .left) (omega arith))
+    (λ c. let a = c .before .args in measure-none (a .us .now) (a .end) (a .at) (a .k) (omega arith) (omega arith))
+    (λ c. let a = c .before .before .args in measure-few (a .us .now) (a .end) (a .at) (a .k) (omega arith) (c .before .if1 .left) (omega arith))
     (λ c. search needs)
     (λ c. search needs)
     (λ c κs. search needs)
     (λ c. search needs)
-    (λ c. let a = c .before .before .before .before .before .before .args in
+    (λ c. let a = c .before .before .before .before .before .args in
     let dc = c .before .wide in
-    measure-cut (a .s .now) (a .at) (a .k) (dc .result) (dc .ensures .0) (omega arith) (omega arith))
+    measure-cut (a .us .now) (a .end) (a .at) (a .k) (omega arith) (dc .result) (dc .ensures .0) (omega arith) (omega arith))
     (λ c. search needs)
     (λ c. search needs)
     (λ c κs. search needs)
-    (λ c. let a = c .before .before .before .before .before .before .before .args in
+    (λ c. let a = c .before .before .before .before .before .before .args in
     let dc = c .before .before .wide in
-    measure-more (a .s .now) (a .at) (a .k) (dc .result) (dc .ensures .0) (omega arith) (c .measure .result) (omega arith) (c .measure .ensures))
+    let more = measure-more (a .us .now) (a .end) (a .at) (a .k) (omega arith) (dc .result) (dc .ensures .0) (omega arith) in
+    more (c .measure .result) (omega arith) (c .measure .ensures))

@@ -1,38 +1,66 @@
 -- `write::write_sheet` meets its contract: a law for each return. Assumes nothing.
-use Prim.Native.Nat.{_≤_}
+use Prim.Native.Nat.{ℕ, _+_, _*_, _≤_}
 use mathlib.Core.Path.{_≡_, sym}
+use mathlib.Core.List.{List}
 use native.Mathlib.Omega.{arith}
-use lib.ListN.{length}
+use lib.ListN.{length, take}
 use lib.Seq.{length-take-le}
 use borrow.Author.Needs.{needs}
 use Rattle.sheet.specs.Write.{packetsShown, Whole}
 use Rattle.sheet.proofs.WriteLaws.{whole-long}
-use Rattle.sheet.proofs.write.Written.{too-long, not-whole, is-whole, no-room, all-room}
+use Rattle.sheet.proofs.write.Written.{not-whole, is-whole, no-room, all-room}
 use Rattle.sheet.proofs.write.write_sheet.Statement.{statement}
 use Rattle.sheet.proofs.write.write_sheet.Tie as tie
 
--- past the second test the bytes are whole packets, so many
-whole : (c : tie.Else2) → (let s = c .before .before .before .before .before .args .string .now in Whole s × (c .before .measure .result ≡ length (packetsShown s)))
-whole c =
-    let a = c .before .before .before .before .before .args in
-    is-whole (a .system) (a .string .now) (a .sheet .now) (c .before .measure .result) (c .before .measure .ensures) (omega arith) (c .if2 .left)
+-- the string, once its end is within the array
+module _ (c : tie.After-measure) where
+  abbrev start : tie.Start
+  start = c .before .before .before .before
 
-few : (c : tie.Else2) → c .before .measure .result ≤ 65535
+  abbrev us : List ℕ
+  us = start .args .us .now
+
+  abbrev bytes : ℕ
+  bytes = c .before .within .result
+
+  abbrev s : List ℕ
+  s = take bytes us
+
+  all : length us ≡ 9360
+  all = c .before .before .whole .given .0
+
+  same : s ≡ take (start .args .end) us
+  same = c .before .within .ensures .1 us all
+
+  long : length s ≡ bytes
+  long = let l = all in length-take-le bytes us (omega arith)
+
+-- past the first test the bytes are whole packets, so many
+whole : (c : tie.Else1) → Whole (s (c .before)) × (c .before .measure .result ≡ length (packetsShown (s (c .before))))
+whole c =
+    let a = start (c .before) .args in
+    let l = long (c .before) in
+    is-whole (a .system) (s (c .before)) (a .sheet .now) (c .before .measure .result) (c .before .measure .ensures) (omega arith) (c .if1 .left)
+
+few : (c : tie.Else1) → c .before .measure .result ≤ 9360
 few c =
     let w = whole c in
-    let k = whole-long (c .before .before .before .before .before .args .string .now) (w .0) .few in
+    let l = long (c .before) in
+    let k = whole-long (s (c .before)) (w .0) .few in
     omega arith
 
-returns : tie.Need-returns
-returns c = let a = c .before .before .before .args in too-long (a .system) (a .string .now) (a .sheet .now) (omega arith)
+within-requires : tie.Need-within-requires
+within-requires c κs = search needs
 
 measure-requires : tie.Need-measure-requires
 measure-requires c κs = search needs
 
-returns-2 : tie.Need-returns-2
-returns-2 c =
-    let a = c .before .before .before .before .before .args in
-    not-whole (a .system) (a .string .now) (a .sheet .now) (c .before .measure .result) (c .before .measure .ensures) (omega arith) (c .if2 .taken)
+returns : tie.Need-returns
+returns c =
+    let b = c .before in
+    let a = start b .args in
+    let l = long b in
+    rw (same b) at (not-whole (a .system) (s b) (a .sheet .now) (b .measure .result) (b .measure .ensures) (omega arith) (c .if1 .taken))
 
 mul-n : tie.Need-mul-n
 mul-n c = let f = few c in omega arith
@@ -43,48 +71,58 @@ add-n c = let f = few c in omega arith
 add-n-2 : tie.Need-add-n-2
 add-n-2 c = let f = few c in omega arith
 
-returns-3 : tie.Need-returns-3
-returns-3 c =
-    let a = c .before .before .before .before .before .before .args in
+returns-2 : tie.Need-returns-2
+returns-2 c =
+    let b = c .before .before in
+    let a = start b .args in
     let w = whole (c .before) in
-    no-room (a .system) (a .string .now) (a .sheet .now) (c .before .before .measure .result) (w .0) (w .1) (omega arith)
+    let l = long b in
+    rw (same b) at (no-room (a .system) (s b) (a .sheet .now) (b .measure .result) _ (w .0) (w .1) (omega arith) (c .if2 .taken))
+
+slice-aggregate-write-sections : tie.Need-slice-aggregate-write-sections
+slice-aggregate-write-sections c = sym (long (c .before .before .before))
 
 slice-relend-prefix-write-sections : tie.Need-slice-relend-prefix-write-sections
 slice-relend-prefix-write-sections c = search needs
 
-slice-aggregate-write-sections : tie.Need-slice-aggregate-write-sections
-slice-aggregate-write-sections c = sym (length-take-le _ (c .before .before .before .before .before .before .before .args .sheet .now) (c .before .if3 .left))
+slice-aggregate-write-sections-2 : tie.Need-slice-aggregate-write-sections-2
+slice-aggregate-write-sections-2 c = sym (length-take-le _ (start (c .before .before .before .before) .args .sheet .now) (c .before .before .if2 .left))
 
 write-sections-requires : tie.Need-write-sections-requires
 write-sections-requires c κs =
-    let w = whole (c .before .before) in
-    let l = length-take-le _ (c .before .before .before .before .before .before .before .args .sheet .now) (c .before .if3 .left) in
+    let w = whole (c .before .before .before) in
+    let l = long (c .before .before .before .before) in
+    let m = length-take-le _ (start (c .before .before .before .before) .args .sheet .now) (c .before .before .if2 .left) in
     record { whole = w .0; count = w .1; few = omega arith; room = omega arith }
 
 same-length : tie.Need-same-length
 same-length c = search needs
 
-returns-4 : tie.Need-returns-4
-returns-4 c =
-    let a = c .before .before .before .before .before .before .before .before .before .before .args in
+returns-3 : tie.Need-returns-3
+returns-3 c =
     let d = c .before .before .write-sections in
-    let w = whole (c .before .before .before .before .before) in
-    let n = c .before .before .before .before .before .before .measure .result in
-    all-room (a .system) (a .string .now) (a .sheet .now) n (w .0) (w .1) (omega arith) (omega arith) (d .last .1 .1 .1 .0) (d .ensures)
+    let e = c .before .before .before .before .before .before in
+    let b = e .before in
+    let a = start b .args in
+    let w = whole e in
+    let l = long b in
+    let n = 4 + 2 * b .measure .result + bytes b in
+    rw (same b) at (all-room (a .system) (s b) (a .sheet .now) (b .measure .result) n (w .0) (w .1) (omega arith) (omega arith) (d .last .1 .1 .1 .0) (d .ensures))
 
 pub write-sheet-spec : {M : Type 1} → statement M
 write-sheet-spec =
     tie.close
     (tie.spec
-    returns
+    within-requires
     measure-requires
-    returns-2
+    returns
     mul-n
     add-n
     add-n-2
-    returns-3
-    slice-relend-prefix-write-sections
+    returns-2
     slice-aggregate-write-sections
+    slice-relend-prefix-write-sections
+    slice-aggregate-write-sections-2
     write-sections-requires
     same-length
-    returns-4)
+    returns-3)

@@ -1,10 +1,6 @@
 -- `vanc::reading::decoded` meets its contract: a number from 1,073,741,824 on is a refusal, any other packets and their string.
 -- Assumes nothing.
 use Prim.Native.Nat.{_-_, _/_, _%_}
-use mathlib.Core.Path.{sym}
-use native.Mathlib.Omega.{arith}
-use lib.ListN.{length-take}
-use lib.Seq.{length-take-le}
 use borrow.Author.Needs.{needs}
 use Rattle.vanc.proofs.ReadLaws.{back-refused, back-listed, code-refused}
 use Rattle.vanc.proofs.reading.decoded.Statement.{statement}
@@ -18,37 +14,21 @@ returns c =
     let a = c .before .before .before .before .args in
     let n = a .code - 1073741824 in
     λ o w.
-    let r = code-refused (a .code) (a .us .now) o w (c .before .if1 .taken) in
+    let r = code-refused (a .code) (a .us .now) (c .before .before .whole .given .0) o w (c .before .if1 .taken) in
     back-refused (a .system) (a .packing) (a .sheet .now) o (n / 1024) (n % 1024) (c .refusal .result) r (c .refusal .ensures)
 
-slice-aggregate-written : tie.Need-slice-aggregate-written
-slice-aggregate-written c =
-    let l = c .before .before .before .before .pre .1 in
-    let h = c .before .before .before .before .pre .2 (c .before .if1 .left) in
-    sym (length-take-le _ (c .before .before .before .before .args .us .now) (omega arith))
-
 written-requires : tie.Need-written-requires
-written-requires c κs =
-    let l = c .before .before .before .before .before .pre .1 in
-    (c .before .before .before .before .before .pre .0, simp length-take (omega arith))
+written-requires c κs = search needs
 
 same-length : tie.Need-same-length
 same-length c = search needs
 
 returns-2 : tie.Need-returns-2
 returns-2 c =
-    let a = c .before .before .before .before .before .before .before .before .args in
+    let a = c .before .before .before .before .before .before .before .args in
     let r = c .before .before .written in
-    let below = c .before .before .before .before .before .if1 .left in
-    λ o w. back-listed (a .system) (a .packing) (a .sheet .now) o (a .code) (a .us .now) (r .result) (r .last .1 .1 .1 .1 .0) w below (r .ensures)
+    let below = c .before .before .before .before .if1 .left in
+    λ o w. back-listed (a .system) (a .packing) (a .sheet .now) o (a .code) (a .us .now) (r .result) (r .last .1 .1 .1 .1 .1 .0) w below (r .ensures)
 
 pub decoded-spec : {M : Type 1} → statement M
-decoded-spec =
-    tie.close
-    (tie.spec
-    refusal-requires
-    returns
-    slice-aggregate-written
-    written-requires
-    same-length
-    returns-2)
+decoded-spec = tie.close (tie.spec refusal-requires returns written-requires same-length returns-2)

@@ -1,11 +1,19 @@
--- `vanc::reading::read_long` meets its contract: what opening long packs leaves is nothing or a string. Assumes nothing.
-use Prim.Native.Nat.{_/_, _≤_}
-use mathlib.Core.Path.{refl}
+-- `vanc::reading::read_long` meets its contract: what opening long packs leaves is nothing, or a string and the number of its outcome.
+-- Assumes nothing.
+use Prim.Native.Nat.{ℕ, _/_, _%_}
+use mathlib.Core.Path.{_≡_, refl}
+use mathlib.Core.List.{List}
+use native.Mathlib.Omega.{arith}
+use lib.ListN.{take}
 use borrow.Author.Needs.{needs}
+use Rattle.rules.specs.Systems.{System}
+use Rattle.rules.specs.Sheet.{limit}
 use Rattle.rules.specs.Packing2.{Opened}
-use Rattle.rules.specs.Reading.{packetsOfOpened}
+use Rattle.rules.specs.Numbers.{packetsIn}
+use Rattle.rules.specs.Reading.{stringRow, packetsOfOpened}
 use Rattle.packing2.specs.Unlong.{openedFrom}
-use Rattle.vanc.proofs.ReadLaws.{back-refused, back-of, long-shut, long-open, long-len, long-within}
+use Rattle.vanc.specs.Read.{Coded}
+use Rattle.vanc.proofs.ReadLaws.{frame-of, back-refused, back-of, long-coded, long-shut, long-open, long-len, long-string, long-within}
 use Rattle.vanc.proofs.reading.read_long.Statement.{statement}
 use Rattle.vanc.proofs.reading.read_long.Tie as tie
 
@@ -30,29 +38,45 @@ returns c =
 validate-requires : tie.Need-validate-requires
 validate-requires c κs = search needs
 
--- the string is not longer than the packs of a frame
-short : (c : tie.After-validate) → c .before .before .before .open-long .result / 128 ≤ 8928
-short c =
-    let b = c .before .before .before in
-    let o = b .open-long in
-    long-len (found b) (o .result) (o .last .1 .0) (o .ensures) (c .before .before .if1 .left)
+-- the string is walked
+module _ (c : tie.After-validate) where
+  abbrev opening : tie.After-open-long
+  opening = c .before .before .before
 
-read-string-requires : tie.Need-read-string-requires
-read-string-requires c κs =
-    let v = c .before .before .before in
-    let p = v .before .before .before .before .before .before .pre in
-    let h = short v in
-    ((p .0, p .1, c .before .read-string-arg2 .given .0, h), λ y e. v .validate .ensures y e (long-within _ h))
+  abbrev start : tie.Start
+  start = opening .before .before .before
+
+  abbrev opened : ℕ
+  opened = opening .open-long .result
+
+  abbrev after : List ℕ
+  after = opening .open-long .last .1 .0
+
+  -- for every system with this last line
+  coded : (y : System) → y .last ≡ start .args .last .0
+      → Coded (packetsIn (stringRow y (opened % 128)) limit 0 (take (opened / 128) after)) (c .validate .result) after
+  coded y e =
+      let p = start .pre in
+      let q = p .1 in
+      let w = opening .open-long .ensures in
+      let some = c .before .before .if1 .left in
+      long-coded y (omega arith) after (opened / 128) (opened % 128) (c .validate .result)
+      (long-string (start .args .system) (p .0) (start .args .us .now) (p .2) opened after w some)
+      (c .validate .ensures y e (long-within _ (long-len (found opening) opened after w some)))
+
+decoded-requires : tie.Need-decoded-requires
+decoded-requires c κs = frame-of _ (start (c .before .before) .pre .0) .low
 
 same-length : tie.Need-same-length
 same-length c = search needs
 
 returns-2 : tie.Need-returns-2
 returns-2 c =
-    let b : tie.After-open-long = c .before .before .before .before .before .before .before .before .before in
-    let o = b .open-long in
-    let some = c .before .before .before .before .before .before .before .before .if1 .left in
-    λ y e. back-of refl (long-open y (found b) (o .result) (o .last .1 .0) (o .ensures) some) (c .before .before .read-string .ensures y e)
+    let v : tie.After-validate = c .before .before .before .before .before in
+    let o = opening v .open-long in
+    λ y e.
+    back-of refl (long-open y (found (opening v)) (opened v) (after v) (o .ensures) (v .before .before .if1 .left))
+    (c .before .before .decoded .ensures _ (coded v y e))
 
 pub read-long-spec : {M : Type 1} → statement M
 read-long-spec =
@@ -62,6 +86,6 @@ read-long-spec =
     refusal-requires
     returns
     validate-requires
-    read-string-requires
+    decoded-requires
     same-length
     returns-2)

@@ -61,7 +61,9 @@ returns c =
     back-of (u .0) (u .1) (c .before .before .read-fives .ensures (system (sys b)) (sym (start b .pre .2)))
 
 read-long-requires : tie.Need-read-long-requires
-read-long-requires c κs = let b : tie.After-shared-slice-known = c .before .before .before .before in (frame b .low, line b)
+read-long-requires c κs =
+    let b : tie.After-shared-slice-known = c .before .before .before .before in
+    (is-known b, line b, λ i. b .shared-slice-known .given i .fits)
 
 same-length-2 : tie.Need-same-length-2
 same-length-2 c = search needs
@@ -108,11 +110,8 @@ returns-4 c =
     let u = users-mixed (sys b) (total b) (us b) (is-known b) (is-total b) (long b) (c .before .before .before .before .if3 .left) f in
     back-refused (sys b) _ (start b .args .sheet .now) _ 13 0 (c .refusal2 .result) u (c .refusal2 .ensures)
 
-slice-aggregate-written : tie.Need-slice-aggregate-written
-slice-aggregate-written c = search needs
-
 written-requires : tie.Need-written-requires
-written-requires c κs = let b : tie.After-shared-slice-known = c .before .before .before .before .before .before .before .before in (frame b .low, omega arith)
+written-requires c κs = let b : tie.After-shared-slice-known = c .before .before .before .before .before .before .before .before in frame b .low
 
 same-length-3 : tie.Need-same-length-3
 same-length-3 c = search needs
@@ -144,7 +143,6 @@ read-users-spec =
     all-fill-requires
     refusal-requires-2
     returns-4
-    slice-aggregate-written
     written-requires
     same-length-3
     returns-5)
