@@ -2,17 +2,7 @@
  * vanc_lay and vanc_read in C that is written for the compiler's vector code: passes without a branch over whole runs, blocks moved by
  * copies of constant length, one pass over all words or bytes and then what differs in each packet. All the tests of the library.
  */
-#include <stdbool.h>
-#include <string.h>
-
-#include "baseline.h"
-
-enum { LIMIT = 512, STARTER = 0xE1, CARRIER = 0xE2, LONG = 0xE3, FILL = 0xFF, MOST = 9360 };
-
-static const struct {
-    size_t sequences;
-    uint16_t last_line;
-} systems[] = { { 0, 0 }, { 10, 1125 }, { 12, 1125 }, { 10, 750 } };
+#include "common.h"
 
 /* A byte with even parity in bit 8 and its inverse in bit 9: folded, since a table cannot be looked up in vectors. */
 static inline uint16_t word_of(uint16_t byte)
@@ -66,7 +56,6 @@ static void spread(size_t n, const uint8_t *restrict bytes, uint8_t *restrict ar
             }
 }
 
-/* The first fault of the packet at the front of some words, 0 for none. */
 static unsigned packet_fault(const uint16_t *words, size_t left)
 {
     if (left < 7 || words[0] != 0x000 || words[1] != 0x3FF || words[2] != 0x3FF)
@@ -88,11 +77,6 @@ static unsigned packet_fault(const uint16_t *words, size_t left)
     if (wrong != 0)
         return 8;
     return words[end] == check_of(sum) ? 0 : 10;
-}
-
-static vanc_laid lay_refusal(unsigned number, size_t place)
-{
-    return (vanc_laid){ .number = number, .place = place };
 }
 
 /* The string: the low bytes of all words, and then the header bytes in place of each flag. */
@@ -167,20 +151,10 @@ static size_t lay_long(const uint8_t *restrict string, size_t length, uint8_t *r
 
 vanc_laid baseline_lay(const uint16_t *sheet, size_t sheet_len, uint64_t packing, uint8_t *area, size_t area_len)
 {
-    if (packing != 1 && packing != 2)
-        return lay_refusal(1, 0);
-    if (sheet_len < 4 || sheet[0] != 1)
-        return lay_refusal(2, 0);
-    size_t count = sheet[2], c = 3 + 2 * count;
-    if (sheet_len < c + 1 || sheet_len != c + 1 + sheet[c])
-        return lay_refusal(2, 0);
-    if (sheet[1] < 1 || sheet[1] > 3)
-        return lay_refusal(3, 0);
-    size_t n = systems[sheet[1]].sequences;
-    if (area_len != 960 * n)
-        return lay_refusal(4, 0);
-    if (count > LIMIT)
-        return lay_refusal(5, 0);
+    unsigned fault = counts_fault(sheet, sheet_len, packing, area_len);
+    if (fault != 0)
+        return lay_refusal(fault, 0);
+    size_t n = systems[sheet[1]].sequences, count = sheet[2], c = 3 + 2 * count;
     const uint16_t *locations = sheet + 3, *words = sheet + c + 1;
     size_t length = sheet[c];
     uint16_t last_line = systems[sheet[1]].last_line, out_of_range = 0;
@@ -191,15 +165,10 @@ vanc_laid baseline_lay(const uint16_t *sheet, size_t sheet_len, uint64_t packing
             if (locations[2 * k] > last_line || locations[2 * k + 1] > 3)
                 return lay_refusal(6, k);
 
-    size_t packets = 0, packs = 0;
-    for (size_t at = 0; at < length; packets++) {
-        unsigned fault = packet_fault(words + at, length - at);
-        if (fault != 0)
-            return lay_refusal(fault, packets);
-        size_t user = words[at + 5] & 0xFF;
-        packs += 2 + (user + 3) / 4;
-        at += user + 7;
-    }
+    size_t packets, packs;
+    fault = count_packets(words, length, &packets, &packs);
+    if (fault != 0)
+        return lay_refusal(fault, packets);
     if (packets != count)
         return lay_refusal(11, 0);
     if (packing == 1 ? packs > 156 * n : length > 744 * n)
@@ -216,48 +185,12 @@ vanc_laid baseline_lay(const uint16_t *sheet, size_t sheet_len, uint64_t packing
     return (vanc_laid){ 0, 0, packs, length };
 }
 
-static vanc_read_back read_refusal(unsigned number, size_t place)
-{
-    return (vanc_read_back){ .number = number, .place = place };
-}
-
 static bool all_fill(const uint8_t *bytes, size_t size)
 {
     uint8_t all = FILL;
     for (size_t i = 0; i < size; i++)
         all &= bytes[i];
     return all == FILL;
-}
-
-/* 15 and 16 of the DANC packet at the front of some bytes. */
-static unsigned danc_fault(const uint8_t *packet, uint16_t last_line)
-{
-    size_t end = packet[5] + 6u;
-    uint8_t sum = 0;
-    for (size_t i = 3; i < end; i++)
-        sum = (uint8_t)(sum + packet[i]);
-    if (sum != packet[end])
-        return 15;
-    if (packet[0] & 0x80) {
-        unsigned line = (packet[0] & 0x7Fu) | (packet[1] & 0x0Fu) << 7;
-        if (line == 0 || line > last_line)
-            return 16;
-    }
-    return 0;
-}
-
-/* Where fill begins, if the packs are in order; 0 where they are not. */
-static size_t packs_end(const uint8_t *bytes, size_t total)
-{
-    size_t at = 0;
-    while (at < total && bytes[at] == STARTER) {
-        at += 5;
-        if (at == total || bytes[at] != CARRIER)
-            return 0;
-        while (at < total && bytes[at] == CARRIER)
-            at += 5;
-    }
-    return all_fill(bytes + at, total - at) ? at : 0;
 }
 
 /* Packs of 5 to a string, in place; its length and its packets, or a refusal. */
@@ -322,23 +255,6 @@ static bool open_long(uint8_t *bytes, size_t total, size_t *length, size_t *last
                 }
             }
     return false;
-}
-
-static vanc_read_back walk(const uint8_t *string, size_t length, size_t last, uint16_t last_line)
-{
-    size_t packets = 0, at = 0;
-    while (!(at > length - last && all_fill(string + at, length - at))) {
-        if (packets == LIMIT)
-            return read_refusal(5, LIMIT);
-        if (length - at < 7 || length - at < string[at + 5] + 7u)
-            return read_refusal(14, packets);
-        unsigned fault = danc_fault(string + at, last_line);
-        if (fault != 0)
-            return read_refusal(fault, packets);
-        at += string[at + 5] + 7u;
-        packets++;
-    }
-    return (vanc_read_back){ .packing = 2, .packets = packets, .numbers = at };
 }
 
 /* The sheet of a string whose packets and length are in `found`: the words of all bytes, and then locations, flags and CS. */

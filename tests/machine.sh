@@ -1,6 +1,6 @@
 # What this machine has. Sourced: `need COMMAND PACKAGE` installs a Debian package where the command is missing; `run PROGRAM ..` runs an
 # x86-64 program, as all that the toolchain builds are, on any processor; `need_cc` sees to a C compiler for such programs, and `cc_for ..` calls it;
-# `quietly COMMAND ..` shows what a command says only where it fails.
+# `need_own_cc` sees to gcc for this machine's own; `quietly COMMAND ..` shows what a command says only where it fails.
 
 as_root() {
   if [ "$(id -u)" = 0 ]; then "$@"; else sudo "$@"; fi
@@ -24,12 +24,14 @@ need() {
   command -v "$1" >/dev/null || install_package "$2"
 }
 
+need_own_cc() {
+  need gcc gcc
+  [ -e /usr/include/stdio.h ] || install_package libc6-dev
+}
+
 if [ "$(uname -m)" = x86_64 ]; then
   run() { "$@"; }
-  need_cc() {
-    need gcc gcc
-    [ -e /usr/include/stdio.h ] || install_package libc6-dev
-  }
+  need_cc() { need_own_cc; }
   cc_for() { gcc "$@"; }
 else
   need qemu-x86_64 qemu-user
