@@ -6,6 +6,7 @@ WORK has the programs library, plain and tuned (bench/frames.c linked with each)
 """
 import math
 import platform
+import shutil
 import subprocess
 import sys
 
@@ -40,7 +41,8 @@ CALLS = 20
 def run(program, case, times, before=(), after=()):
     """What the program says on standard output and standard error."""
     arguments = [*before, f"{WORK}/{program}", *map(str, case), str(times), *after]
-    done = subprocess.run(arguments, capture_output=True, text=True)
+    # Without an environment: its length moves the stack, and the C library's copies depend on how their bytes are aligned.
+    done = subprocess.run(arguments, capture_output=True, text=True, env={})
     if done.returncode != 0:
         sys.exit(f"bench: {' '.join(arguments)}: {done.stderr}")
     return done.stdout, done.stderr
@@ -48,7 +50,7 @@ def run(program, case, times, before=(), after=()):
 
 def instructions(program, case):
     """What a call answers, and its instructions: what CALLS calls more take, divided."""
-    counting = ("qemu-x86_64", "-cpu", "Nehalem", "-plugin", f"{WORK}/count.so")
+    counting = (shutil.which("qemu-x86_64"), "-cpu", "Nehalem", "-plugin", f"{WORK}/count.so")
     first, once = run(program, case, 1, before=counting)
     answer, more = run(program, case, 1 + CALLS, before=counting)
     if first != answer:
