@@ -113,8 +113,8 @@ pub fn words() -> [u16; 256]
     table
 }
 
-// A word's low byte as a place in the table, so that no caller has to show that the cast keeps it.
-fn low_byte(w: u16) -> usize
+// A word's low byte as a place in the table, or a DC, so that no caller has to show that the cast keeps it.
+pub fn low_byte(w: u16) -> usize
     ensures { λ r. ⌜ r ≡ w % 256 ⌝ }
 {
     (w % 256) as usize

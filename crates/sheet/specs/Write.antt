@@ -1,14 +1,15 @@
 -- Writing the sheet of the packets that a string shows: the packets, how many numbers are written, the sheet buffer afterwards.
 --
--- In order: the packets of a string; the numbers written; the buffer afterwards; what the parts of the writing say.
+-- In order: the packets of a string; the numbers written; the buffer afterwards; the words of one packet; what the parts of the writing
+-- say.
 -- Assumes nothing.
 use Prim.Native.Nat.{ℕ, _+_, _*_, _<_}
 use mathlib.Core.Path.{_≡_}
 use mathlib.Core.Bool.{Bool, true, false, cond, _||_}
-use mathlib.Core.List.{List, [], _∷_, _++_}
-use lib.Dec.{ltb, leb}
+use mathlib.Core.List.{List, [], _∷_, _++_, map}
+use lib.Dec.{eqb, ltb, leb}
 use lib.ListN.{length, getD, drop}
-use Rattle.rules.specs.Packet.{Packet}
+use Rattle.rules.specs.Packet.{Packet, word, check}
 use Rattle.rules.specs.Sheet.{sheetOf}
 use Rattle.rules.specs.Numbers.{Outcome, listed, refused, Row, packetsIn}
 use Rattle.rules.specs.Reading.{packetOfBytes}
@@ -61,6 +62,16 @@ afterOf sys buffer (refused n i) = buffer
 -- "On success the sheet buffer past the sheet is unchanged."
 unfoldable pub sheetAfter : ℕ → List ℕ → List ℕ → List ℕ
 sheetAfter sys s buffer = afterOf sys buffer (shown s)
+
+-- ---- the words of one packet
+
+-- "000h, 3FFh, 3FFh", words, and the CS of these: `words p` is `framed (coded p)`
+unfoldable pub framed : List ℕ → List ℕ
+framed ws = 0x000 ∷ 0x3FF ∷ 0x3FF ∷ ws ++ check ws ∷ []
+
+-- from the bytes of DID to the last user word, where the buffer is as long as the words are; or the buffer as it was
+unfoldable pub wordsAfter : List ℕ → List ℕ → List ℕ
+wordsAfter s buffer = cond (eqb (length buffer) (length s + 4)) (framed (map word s)) buffer
 
 -- ---- what the parts of the writing say
 

@@ -16,12 +16,13 @@ mod write;
 use frame::Line;
 use rules::Tested;
 pub use write::write_sheet;
+pub use write::write_words;
 
 // "P is at most 512."
 const LIMIT: usize = 512;
 
 // A number of the sheet as a place, so that no caller has to show that the cast keeps it.
-fn wide(x: u16) -> usize
+pub fn wide(x: u16) -> usize
     ensures { λ r. ⌜ (r ≡ x) × (r < 65536) ⌝ }
 {
     x as usize

@@ -4,12 +4,12 @@
 use frame::wide;
 ghost use mathlib.Core.Path.{_≡_};
 ghost use mathlib.Core.List.{List, map};
-ghost use Prim.Native.Nat.{ℕ, _*_, _≤_, _<_};
+ghost use Prim.Native.Nat.{ℕ, _-_, _*_, _≤_, _<_};
 ghost use lib.ListN.{length, take, drop};
-ghost use Rattle.rules.specs.Packet.{word, words};
+ghost use Rattle.rules.specs.Packet.{word};
 ghost use Rattle.rules.specs.Sheet.{locations, allWords, sheetOf};
-ghost use Rattle.rules.specs.Reading.{lineOf, packetOfBytes};
-ghost use Rattle.sheet.specs.Write.{sizeIn, shown, wrote, sheetAfter, packetsShown, Whole, Measured, countFrom};
+ghost use Rattle.rules.specs.Reading.{lineOf};
+ghost use Rattle.sheet.specs.Write.{shown, wrote, sheetAfter, framed, wordsAfter, packetsShown, Whole, Measured, countFrom};
 
 // No system has more user bytes, so no string is longer.
 const LONGEST: usize = 9360;
@@ -78,14 +78,26 @@ fn write_coded(s: &[u8], out: &mut [u16])
 // "000h, 3FFh, 3FFh; DID; SDID or DBN; DC; DC user words; CS": where the words of a packet's bytes stand, the flag and CS are put.
 // CS is summed over the words: of the bytes' sum "the low eight bits agree, bit 8 need not".
 fn write_flag_and_cs(out: &mut [u16])
-    requires { ⌜ 7 ≤ length (now out) ⌝ }
-    ensures { λ _. ⌜ ((s : List ℕ) → length s ≡ sizeIn s → now (out .entry) ≡ map word s → now (out .exit) ≡ words (packetOfBytes s)) ⌝ }
+    requires { ⌜ 4 ≤ length (now out) ⌝ }
+    ensures { λ _. ⌜ now (out .exit) ≡ framed (take (length (now (out .entry)) - 4) (drop 3 (now (out .entry)))) ⌝ }
 {
     let end = out.len() - 1;
     out[0] = 0x000;
     out[1] = 0x3FF;
     out[2] = 0x3FF;
     out[end] = packet::check_of(&out[3..end]);
+}
+
+// The words of one packet from its bytes, DID to the last user byte (004, 7.2: a reader makes flag, parity and CS anew). Nothing is
+// written where `out` is not as long as they are.
+pub fn write_words(bytes: &[u8], out: &mut [u16])
+    ensures { λ _. ⌜ now (out .exit) ≡ wordsAfter (now (bytes .entry)) (now (out .entry)) ⌝ }
+{
+    if out.len() < 4 || out.len() - 4 != bytes.len() {
+        return;
+    }
+    write_coded(bytes, &mut out[3..3 + bytes.len()]);
+    write_flag_and_cs(out);
 }
 
 // "W words: packets back to back". "A DANC packet has as many bytes as its VANC packet has words", so both stand at one place.

@@ -1,113 +1,27 @@
 -- What is written of a sheet so far, and then what is still to be written.
 --
--- In order: a number, two numbers, a part more; three numbers, a part and a number; bytes as words; locations; the words of packets;
--- the words of one packet; the sections; the sheet.
+-- In order: bytes as words; locations; the words of packets; the words of one packet; the sections; the sheet.
 -- Assumes nothing.
 use Prim.Native.Nat.{ℕ, zero, suc, _+_, _-_, _*_, _≤_, _<_}
 use mathlib.Core.Path.{_≡_, refl, sym, ap, ap₂, _∙_}
 use mathlib.Core.Bool.{false}
-use mathlib.Core.List.{List, [], _∷_, _++_, map, append-assoc, append-nil}
+use mathlib.Core.List.{List, [], _∷_, _++_, map}
 use native.Mathlib.Omega.{arith}
 use native.Mathlib.Numerals.{add-one, add-three, add-seven}
-use lib.ListN.{length, getD, take, drop, set, length-append, length-drop, length-set, length-map, drop-of-length-le, take-append-drop}
-use lib.Seq.{length-take-le, getD-take, getD-drop, drop-cons, drop-drop, take-suc-set, take-at, drop-at, take-all, take-take, append-snoc}
-use borrow.Author.Tests.{lt-leb, le-leb}
+use lib.ListN.{length, getD, take, drop, set, length-drop, length-set, length-map, take-append-drop}
+use lib.Seq.{length-take-le, getD-take, getD-drop, drop-cons, drop-drop, take-at, drop-at, take-all, take-take}
+use borrow.Author.Tests.{lt-leb, le-leb, eq-eqb, ne-eqb}
 use Rattle.rules.specs.Packet.{Packet, body, word, check, coded, checkOf, words}
 use Rattle.rules.specs.Sheet.{locations, allWords, sheetOf}
 use Rattle.rules.specs.Numbers.{Outcome, listed, refused}
 use Rattle.rules.specs.Reading.{lineOf, flagsOf, packetOfBytes}
-use Rattle.rules.proofs.Sheets.{locations-length}
 use Rattle.rules.proofs.Words.{words-room}
 use Rattle.rules.proofs.Sheets.{sheet-length}
-use Rattle.sheet.specs.Write.{sizeIn, shown, hasRoom, wroteOf, wrote, afterOf, sheetAfter, listIn, packetsShown, Whole, Measured, countFrom}
+use Rattle.sheet.specs.Write.{sizeIn, shown, hasRoom, wroteOf, wrote, afterOf, sheetAfter, framed, wordsAfter, listIn, packetsShown, Whole}
+use Rattle.sheet.specs.Write.{Measured, countFrom}
+use Rattle.sheet.proofs.Filling.{one-more, two-more, part-long, part-behind, part-more, all-written, threeOf, backOf, three-tail, back-set}
+use Rattle.sheet.proofs.Filling.{sheet-before, sheet-lent, sheet-long, sheet-filled}
 use Rattle.sheet.proofs.WriteLaws.{size-at, words-long, whole-long, pass, passed-all}
-
--- ---- what stands before a place, and then r
-
--- one number more
-one-more : (out : List ℕ) (i a : ℕ) (r : List ℕ) → i < length out → take (i + 1) (set out i a) ++ r ≡ take i out ++ a ∷ r
-one-more out i a r h = rw (add-one i, take-suc-set out i a h) (append-snoc (take i out) a r)
-
--- two numbers more
-two-more : (out : List ℕ) (i a b : ℕ) (r : List ℕ) → i + 1 < length out → take (i + 2) (set (set out i a) (i + 1) b) ++ r ≡ take i out ++ a ∷ b ∷ r
-two-more out i a b r h =
-    let e : i + 2 ≡ i + 1 + 1 = omega arith in
-    let l = length-set out i a in
-    rw e (one-more (set out i a) (i + 1) b r (omega arith) ∙ one-more out i a (b ∷ r) (omega arith))
-
--- a part more, which was lent and came back
-module _ (out ys : List ℕ) (at end : ℕ) (h : at ≤ end) (k : end ≤ length out) (l : length ys ≡ end - at) where
-  abbrev after : List ℕ
-  after = drop (end - at) (drop at out)
-
-  front-long : length (take at out ++ ys) ≡ end
-  front-long = length-append (take at out) ys ∙ (let m = length-take-le at out (omega arith) in omega arith)
-
-  part-long : length (take at out ++ (ys ++ after)) ≡ length out
-  part-long =
-      let a = length-append (take at out ++ ys) after in
-      let b = length-drop (end - at) (drop at out) in
-      let c = length-drop at out in
-      let d = front-long in
-      ap length (sym (append-assoc (take at out) ys after)) ∙ (omega arith)
-
-  part-behind : drop end (take at out ++ (ys ++ after)) ≡ after
-  part-behind = ap (drop end) (sym (append-assoc (take at out) ys after)) ∙ drop-at (take at out ++ ys) after end front-long
-
-  part-more : (r : List ℕ) → take end (take at out ++ (ys ++ after)) ++ r ≡ take at out ++ (ys ++ r)
-  part-more r =
-      let e : take end (take at out ++ (ys ++ after)) ≡ take at out ++ ys =
-      ap (take end) (sym (append-assoc (take at out) ys after)) ∙ take-at (take at out ++ ys) after end front-long in
-      rw e (append-assoc (take at out) ys r)
-
--- all is written
-pub all-written : (out r goal : List ℕ) (i : ℕ) → length out ≤ i → r ≡ [] → take i out ++ r ≡ goal → out ≡ goal
-all-written out r goal i h e inv = sym (ap (λ (t : List ℕ). take i out ++ t) e ∙ append-nil (take i out) ∙ take-all i out h) ∙ inv
-
--- ---- three numbers, a part that was lent, and a number after it
-
-abbrev pub threeOf : List ℕ → ℕ → ℕ → ℕ → List ℕ
-threeOf out x y z = set (set (set out 0 x) 1 y) 2 z
-
-abbrev pub backOf : List ℕ → List ℕ → ℕ → List ℕ
-backOf three ys mid = take 3 three ++ (ys ++ drop (mid - 3) (drop 3 three))
-
--- behind the three all is as it was
-three-tail : (out : List ℕ) (x y z : ℕ) → drop 3 (threeOf out x y z) ≡ drop 3 out
-three-tail [] x y z = refl
-three-tail (a ∷ []) x y z = refl
-three-tail (a ∷ b ∷ []) x y z = refl
-three-tail (a ∷ b ∷ c ∷ out) x y z = refl
-
-module _ (out ys : List ℕ) (x y z mid v : ℕ) (h : 3 ≤ mid) (k : mid < length out) (l : length ys ≡ mid - 3) where
-  abbrev three : List ℕ
-  three = threeOf out x y z
-
-  abbrev back : List ℕ
-  back = backOf three ys mid
-
-  three-head : take 3 three ≡ x ∷ y ∷ z ∷ []
-  three-head = go out (omega arith)
-    where
-      go : (out : List ℕ) → 3 ≤ length out → take 3 (set (set (set out 0 x) 1 y) 2 z) ≡ x ∷ y ∷ z ∷ []
-      go [] h = absurd (omega arith)
-      go (a ∷ []) h = absurd (omega arith)
-      go (a ∷ b ∷ []) h = absurd (omega arith)
-      go (a ∷ b ∷ c ∷ out) h = refl
-
-  back-is : back ≡ (x ∷ y ∷ z ∷ ys) ++ drop (mid - 3) (drop 3 three)
-  back-is = ap (λ (t : List ℕ). t ++ (ys ++ drop (mid - 3) (drop 3 three))) three-head
-
-  back-long : length back ≡ length out
-  back-long =
-      let d : length three ≡ length out = simp length-set in
-      part-long three ys 3 mid h (omega arith) l ∙ d
-
-  back-set : take (mid + 1) (set back mid v) ≡ (x ∷ y ∷ z ∷ ys) ++ v ∷ []
-  back-set =
-      let b = back-long in
-      let f : take mid back ≡ x ∷ y ∷ z ∷ ys = rw back-is (take-at (x ∷ y ∷ z ∷ ys) (drop (mid - 3) (drop 3 three)) mid (omega arith)) in
-      rw (add-one mid) (take-suc-set back mid v (omega arith) ∙ ap (λ (t : List ℕ). t ++ v ∷ []) f)
 
 -- ---- bytes as words
 
@@ -176,6 +90,28 @@ module _ (s out : List ℕ) (at i : ℕ) (was : Locating s out at i) (h : at < l
 
 -- ---- the words of packets
 
+-- the bytes from DID to the last user byte
+body-bytes : (s : List ℕ) → length s ≡ sizeIn s → take (length s - 4) (drop 3 s) ≡ body (packetOfBytes s)
+body-bytes [] h = absurd (omega arith)
+body-bytes (a ∷ []) h = absurd (omega arith)
+body-bytes (a ∷ b ∷ []) h = absurd (omega arith)
+body-bytes (a ∷ b ∷ c ∷ []) h = absurd (omega arith)
+body-bytes (a ∷ b ∷ c ∷ d ∷ []) h = absurd (omega arith)
+body-bytes (a ∷ b ∷ c ∷ d ∷ e ∷ []) h = absurd (omega arith)
+body-bytes (a ∷ b ∷ c ∷ d ∷ e ∷ n ∷ t) h =
+    let s : List ℕ = a ∷ b ∷ c ∷ d ∷ e ∷ n ∷ t in
+    let k : length s - 4 ≡ n + 3 = omega arith in
+    let l : length (take n t) ≡ n = length-take-le n t (omega arith) in
+    rw (k, add-three n) (ap (λ (m : ℕ). d ∷ e ∷ m ∷ take n t) (sym l))
+
+-- between flag and CS their words are those of the packet
+framed-bytes : (s : List ℕ) → length s ≡ sizeIn s → framed (take (length (map word s) - 4) (drop 3 (map word s))) ≡ words (packetOfBytes s)
+unfolding framed words coded checkOf
+framed-bytes s h =
+    let e : take (length (map word s) - 4) (drop 3 (map word s)) ≡ map word (body (packetOfBytes s)) =
+    rw (length-map s word, map-drop 3 s, map-take (length s - 4) (drop 3 s)) (ap (map word) (body-bytes s h)) in
+    ap (λ (t : List ℕ). 0x000 ∷ 0x3FF ∷ 0x3FF ∷ (t ++ check t ∷ [])) e
+
 -- the bytes of one packet, cut out of a string
 module _ (t : List ℕ) (n : ℕ) (h : n ≡ sizeIn t) (k : n ≤ length t) where
   part-size : length (take n t) ≡ sizeIn (take n t)
@@ -223,7 +159,7 @@ module _ (s out : List ℕ) (at dc : ℕ) (was : Wording s out at) (h : at < len
   enough = let k = inside in let d = length-drop at s in omega arith
 
   -- what is lent: the words of a packet's bytes
-  pub wording-lent : 7 ≤ length (take (end - at) (drop at out))
+  pub wording-lent : 4 ≤ length (take (end - at) (drop at out))
   wording-lent =
       let k = inside in
       let l = was .long in
@@ -231,10 +167,13 @@ module _ (s out : List ℕ) (at dc : ℕ) (was : Wording s out at) (h : at < len
       omega arith
 
   -- what comes back
-  module _ (ys : List ℕ) (q : (t : List ℕ) → length t ≡ sizeIn t → take (end - at) (drop at out) ≡ map word t → ys ≡ words (packetOfBytes t)) where
+  module _ (ys : List ℕ) (q : ys ≡ framed (take (length (take (end - at) (drop at out)) - 4) (drop 3 (take (end - at) (drop at out))))) where
     ys-are : ys ≡ words (packetOfBytes (drop at s))
     ys-are =
-        q bytes (part-size (drop at s) (end - at) size enough) (ap (take (end - at)) (was .coded) ∙ map-take (end - at) (drop at s))
+        let e : take (end - at) (drop at out) ≡ map word bytes = ap (take (end - at)) (was .coded) ∙ map-take (end - at) (drop at s) in
+        q
+        ∙ ap (λ (t : List ℕ). framed (take (length t - 4) (drop 3 t))) e
+        ∙ framed-bytes bytes (part-size (drop at s) (end - at) size enough)
         ∙ ap words (part-packet (drop at s) (end - at) size enough)
 
     ys-long : length ys ≡ end - at
@@ -264,22 +203,8 @@ module _ (s out : List ℕ) (at dc : ℕ) (was : Wording s out at) (h : at < len
 
 -- ---- the words of one packet
 
--- the bytes from DID to the last user byte
-body-bytes : (s : List ℕ) → length s ≡ sizeIn s → take (length s - 1 - 3) (drop 3 s) ≡ body (packetOfBytes s)
-body-bytes [] h = absurd (omega arith)
-body-bytes (a ∷ []) h = absurd (omega arith)
-body-bytes (a ∷ b ∷ []) h = absurd (omega arith)
-body-bytes (a ∷ b ∷ c ∷ []) h = absurd (omega arith)
-body-bytes (a ∷ b ∷ c ∷ d ∷ []) h = absurd (omega arith)
-body-bytes (a ∷ b ∷ c ∷ d ∷ e ∷ []) h = absurd (omega arith)
-body-bytes (a ∷ b ∷ c ∷ d ∷ e ∷ n ∷ t) h =
-    let s : List ℕ = a ∷ b ∷ c ∷ d ∷ e ∷ n ∷ t in
-    let k : length s - 1 - 3 ≡ n + 3 = omega arith in
-    let l : length (take n t) ≡ n = length-take-le n t (omega arith) in
-    rw (k, add-three n) (ap (λ (m : ℕ). d ∷ e ∷ m ∷ take n t) (sym l))
-
--- where their words stand, the flag is put in front and CS behind
-module _ (s out : List ℕ) (cs : ℕ) (hs : length s ≡ sizeIn s) (ho : out ≡ map word s) where
+-- where words stand, the flag is put in front and CS behind
+module _ (out : List ℕ) (cs : ℕ) (h : 4 ≤ length out) where
   abbrev last : ℕ
   last = length out - 1
 
@@ -289,93 +214,83 @@ module _ (s out : List ℕ) (cs : ℕ) (hs : length s ≡ sizeIn s) (ho : out �
   abbrev coded-part : List ℕ
   coded-part = take (last - 3) (drop 3 flagged)
 
-  out-long : length out ≡ length s
-  out-long = ap length ho ∙ length-map s word
-
   coded-long : length coded-part ≡ last - 3
   coded-long =
       let d : length flagged ≡ length out = simp length-set in
       length-take-le (last - 3) (drop 3 flagged) (let e = length-drop 3 flagged in omega arith)
 
-  coded-is : coded-part ≡ map word (body (packetOfBytes s))
+  coded-is : coded-part ≡ take (length out - 4) (drop 3 out)
   coded-is =
-      let e : last - 3 ≡ length s - 1 - 3 = let l = out-long in omega arith in
-      ap (take (last - 3)) (three-tail out 0x000 0x3FF 0x3FF ∙ ap (drop 3) ho ∙ map-drop 3 s)
-      ∙ ap (λ (n : ℕ). take n (map word (drop 3 s))) e
-      ∙ map-take (length s - 1 - 3) (drop 3 s)
-      ∙ ap (map word) (body-bytes s hs)
+      let e : last - 3 ≡ length out - 4 = omega arith in
+      ap (take (last - 3)) (three-tail out 0x000 0x3FF 0x3FF) ∙ ap (λ (n : ℕ). take n (drop 3 out)) e
 
   -- the part is as it was
   part-back : backOf flagged coded-part last ≡ flagged
   part-back = ap (λ (t : List ℕ). take 3 flagged ++ t) (take-append-drop (last - 3) (drop 3 flagged)) ∙ take-append-drop 3 flagged
 
-  pub words-written : cs ≡ check coded-part → set flagged last cs ≡ words (packetOfBytes s)
-  unfolding words coded checkOf
+  pub words-written : cs ≡ check coded-part → set flagged last cs ≡ framed (take (length out - 4) (drop 3 out))
+  unfolding framed
   words-written e =
-      let l = out-long in
       let n : length (set flagged last cs) ≡ last + 1 = simp length-set (omega arith) in
       sym (take-all (last + 1) (set flagged last cs) (omega arith))
       ∙ ap (λ (t : List ℕ). take (last + 1) (set t last cs)) (sym part-back)
       ∙ back-set out coded-part 0x000 0x3FF 0x3FF last cs (omega arith) (omega arith) coded-long
       ∙ ap₂ (λ (t : List ℕ) (w : ℕ). 0x000 ∷ 0x3FF ∷ 0x3FF ∷ (t ++ w ∷ [])) coded-is (e ∙ ap check coded-is)
 
+-- the buffer is not as long as the words are
+pub no-words : (s out : List ℕ) → (length out ≡ length s + 4 → ⊥) → out ≡ wordsAfter s out
+unfolding wordsAfter
+no-words s out h = rw (ne-eqb (length out) (length s + 4) h)
+
+-- it is: the words of the bytes were written behind the flag's place, and then the flag and CS
+module _ (s out ys : List ℕ) (h : length out ≡ length s + 4) (hy : ys ≡ map word s) where
+  abbrev between : List ℕ
+  between = take 3 out ++ (ys ++ drop (3 + length s - 3) (drop 3 out))
+
+  between-part : length ys ≡ 3 + length s - 3
+  between-part = ap length hy ∙ length-map s word ∙ (omega arith)
+
+  pub between-long : length between ≡ length out
+  between-long = part-long out ys 3 (3 + length s) (omega arith) (omega arith) between-part
+
+  pub one-packet : (r : List ℕ) → r ≡ framed (take (length between - 4) (drop 3 between)) → r ≡ wordsAfter s out
+  unfolding wordsAfter
+  one-packet r e =
+      let n : length between - 4 ≡ length ys = let k = between-long in let l = between-part in omega arith in
+      let a : drop 3 between ≡ ys ++ drop (3 + length s - 3) (drop 3 out) =
+      drop-at (take 3 out) (ys ++ drop (3 + length s - 3) (drop 3 out)) 3 (length-take-le 3 out (omega arith)) in
+      let b : take (length between - 4) (drop 3 between) ≡ ys =
+      ap₂ take n a ∙ take-at ys (drop (3 + length s - 3) (drop 3 out)) (length ys) refl in
+      rw (eq-eqb (length out) (length s + 4) h) (e ∙ ap framed (b ∙ hy))
+
 -- ---- the sections
 
 module _ (sys packets : ℕ) (s out ls : List ℕ) (m : Measured packets s out) (hl : ls ≡ locations (packetsShown s)) where
-  abbrev mid : ℕ
-  mid = 3 + 2 * packets
-
   abbrev before : List ℕ
-  before = backOf (threeOf out 1 sys packets) ls mid
+  before = backOf (threeOf out 1 sys packets) ls (3 + 2 * packets)
 
   abbrev counted : List ℕ
-  counted = set before mid (length s)
+  counted = set before (3 + 2 * packets) (length s)
 
-  ls-long : length ls ≡ mid - 3
-  ls-long = ap length hl ∙ locations-length (packetsShown s) ∙ (let c = m .count in omega arith)
+  all-words : length s ≡ length (allWords (packetsShown s))
+  all-words = sym (whole-long s (m .whole) .same)
 
   pub before-long : length before ≡ length out
-  before-long = let r = m .room in back-long out ls 1 sys packets mid (length s) (omega arith) (omega arith) ls-long
-
-  counted-long : length counted ≡ length out
-  counted-long = length-set before mid (length s) ∙ before-long
+  before-long = sheet-before sys packets (length s) (packetsShown s) out ls (m .count) all-words (m .room) hl
 
   -- what is lent for the words
-  pub words-lent : length (take (length counted - (mid + 1)) (drop (mid + 1) counted)) ≡ length s
-  words-lent =
-      let r = m .room in
-      let c = counted-long in
-      let d = length-drop (mid + 1) counted in
-      length-take-le (length counted - (mid + 1)) (drop (mid + 1) counted) (omega arith) ∙ (omega arith)
+  pub words-lent : length (take (length counted - (3 + 2 * packets + 1)) (drop (3 + 2 * packets + 1) counted)) ≡ length s
+  words-lent = sheet-lent sys packets (length s) (packetsShown s) out ls (m .count) all-words (m .room) hl
 
   module _ (ws : List ℕ) (hw : ws ≡ allWords (packetsShown s)) where
-    ws-long : length ws ≡ length counted - (mid + 1)
-    ws-long =
-        let r = m .room in
-        let c = counted-long in
-        let w = whole-long s (m .whole) .same in
-        ap length hw ∙ (omega arith)
+    abbrev all : List ℕ
+    all = take (3 + 2 * packets + 1) counted ++ (ws ++ drop (length counted - (3 + 2 * packets + 1)) (drop (3 + 2 * packets + 1) counted))
 
-    pub sections-long : length (take (mid + 1) counted ++ (ws ++ drop (length counted - (mid + 1)) (drop (mid + 1) counted))) ≡ length out
-    sections-long =
-        let r = m .room in
-        let c = counted-long in
-        part-long counted ws (mid + 1) (length counted) (omega arith) (omega arith) ws-long ∙ c
+    pub sections-long : length all ≡ length out
+    sections-long = sheet-long sys packets (length s) (packetsShown s) out ls (m .count) all-words (m .room) hl ws hw
 
-    pub sections-written : take (mid + 1) counted ++ (ws ++ drop (length counted - (mid + 1)) (drop (mid + 1) counted)) ≡ sheetOf sys (packetsShown s)
-    unfolding sheetOf
-    sections-written =
-        let r = m .room in
-        let d = length-drop (mid + 1) counted in
-        let head : take (mid + 1) counted ≡ (1 ∷ sys ∷ packets ∷ ls) ++ length s ∷ [] =
-        back-set out ls 1 sys packets mid (length s) (omega arith) (omega arith) ls-long in
-        let l : length (drop (mid + 1) counted) ≤ length counted - (mid + 1) = omega arith in
-        let none : drop (length counted - (mid + 1)) (drop (mid + 1) counted) ≡ [] = drop-of-length-le (drop (mid + 1) counted) l in
-        let n : length s ≡ length (allWords (packetsShown s)) = sym (whole-long s (m .whole) .same) in
-        let w : ws ++ [] ≡ allWords (packetsShown s) = append-nil ws ∙ hw in
-        ap₂ (λ (a b : List ℕ). a ++ (ws ++ b)) head none
-        ∙ append-assoc (1 ∷ sys ∷ packets ∷ ls) (length s ∷ []) (ws ++ [])
-        ∙ (λ i. (1 ∷ sys ∷ m .count i ∷ hl i) ++ n i ∷ w i)
+    pub sections-written : all ≡ sheetOf sys (packetsShown s)
+    sections-written = sheet-filled sys packets (length s) (packetsShown s) out ls (m .count) all-words (m .room) hl ws hw
 
 -- ---- the sheet
 

@@ -7,7 +7,8 @@ use native.Mathlib.Omega.{arith}
 use lib.ListN.{length, take, drop, length-set, drop-of-length-le}
 use borrow.Author.Needs.{needs}
 use Rattle.rules.specs.Packet.{word}
-use Rattle.sheet.proofs.write.Written.{all-written, coded-more}
+use Rattle.sheet.proofs.Filling.{all-written}
+use Rattle.sheet.proofs.write.Written.{coded-more}
 use Rattle.sheet.proofs.write.write_coded.Statement.{statement}
 use Rattle.sheet.proofs.write.write_coded.Tie as tie
 

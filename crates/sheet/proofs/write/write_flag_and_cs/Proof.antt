@@ -40,7 +40,9 @@ same-length : tie.Need-same-length
 same-length c = simp length-set (omega arith)
 
 returns : tie.Need-returns
-returns c = λ s size e. words-written s (c .before .before .before .before .args .out .now) (c .check-of .result) size e (c .check-of .ensures)
+returns c =
+    let start = c .before .before .before .before in
+    words-written (start .args .out .now) (c .check-of .result) (start .pre) (c .check-of .ensures)
 
 pub write-flag-and-cs-spec : {M : Type 1} → statement M
 write-flag-and-cs-spec =

@@ -6,7 +6,8 @@ use native.Mathlib.Omega.{arith}
 use lib.ListN.{length, length-set}
 use borrow.Author.Needs.{needs}
 use Rattle.sheet.proofs.WriteLaws.{whole-long}
-use Rattle.sheet.proofs.write.Written.{threeOf, backOf, before-long, words-lent, sections-long, sections-written}
+use Rattle.sheet.proofs.Filling.{threeOf, backOf}
+use Rattle.sheet.proofs.write.Written.{before-long, words-lent, sections-long, sections-written}
 use Rattle.sheet.proofs.write.write_sections.Statement.{statement}
 use Rattle.sheet.proofs.write.write_sections.Tie as tie
 
