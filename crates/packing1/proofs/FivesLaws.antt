@@ -1,6 +1,7 @@
 -- Laws for the proofs of `fives`, one path of the code at a time.
 --
--- In order: runs of stores; low bytes; carriers; a packet's packs from its words; the packet at a place of section C; what a sound
+-- In order: runs of stores; low bytes; carriers; a packet's packs from its words; the sections of a sheet; the packet at a
+-- place of section C; what a sound
 -- packet's words give; the packets that are left; its header bytes; a loop that lays packs; a loop that lays headers; the string.
 -- Assumes nothing.
 use Prim.Native.Nat.{ℕ, zero, suc, _+_, _-_, _*_, _/_, _%_, _≤_, _<_}
@@ -14,17 +15,20 @@ use lib.ListN.{length, getD, take, drop, set, length-append, length-drop, length
 use lib.Seq.{sets, sets-eq, getD-drop, drop-cons, drop-drop, take-at, drop-at}
 use borrow.Author.Tests.{leb-true, ltb-true, ltb-false, lt-ltb, le-ltb}
 use Rattle.rules.specs.Base.{sum, joined, All, one}
-use Rattle.rules.specs.Systems.{System, stands}
+use Rattle.rules.specs.Systems.{System, system, stands}
 use Rattle.rules.specs.Packet.{Packet, body, word, words, coded, checkOf, Sound}
 use Rattle.rules.specs.Danc.{written, header, behind, danc, string, bytesOf, stringBytes}
-use Rattle.rules.specs.Sheet.{locations, allWords}
+use Rattle.rules.specs.Sheet.{locations, allWords, countIn, locationsIn, wordsIn}
 use Rattle.rules.specs.Laying.{low}
 use Rattle.rules.specs.Packing1.{Five, five, flat, carriers, carriersFor, packsOf, packs}
+use Rattle.rules.specs.Demands.{SheetOf}
 use Rattle.rules.proofs.Basics.{written-back}
+use Rattle.rules.proofs.Blocks.{facts-of}
+use Rattle.rules.proofs.Sheets.{locations-back, words-back}
 use Rattle.rules.proofs.Words.{low-word, packet-words, words-room, map-low}
 use Rattle.rules.proofs.Strings.{danc-length}
 use Rattle.rules.proofs.Packs.{flat-append, flat-length, packs-length}
-use Rattle.danc.proofs.Laws.{header-written}
+use Rattle.danc.proofs.Laws.{header-written, rest-part}
 use Rattle.packing1.specs.Fives.{packetFives, Ends, SectionsOf, LaysFives, Heads, LaysString}
 
 -- ---- runs of stores
@@ -158,17 +162,39 @@ module _ (ws us : List ℕ) (at h0 h1 n : ℕ) {us₁ us₂ : List ℕ} (starter
       (ea ∙ sym (low-at ws (4 * n) h)) eb ec (sym (low-none ws (4 * n + 3) (omega arith)))
       ∙ starter-laid us (map low ws) at h0 h1 (n + 1) (omega arith)
 
+-- ---- the sections of a sheet
+
+-- what is lent of a sheet with p locations
+abbrev pub lentB : ℕ → List ℕ → List ℕ
+lentB p s = take (3 + 2 * p - 3) (drop 3 s)
+
+abbrev pub lentC : ℕ → List ℕ → List ℕ
+lentC p s = take (length s - (3 + 2 * p + 1)) (drop (3 + 2 * p + 1) s)
+
+-- they are its sections
+pub sections-lent : (sys : ℕ) (ps : List Packet) (s : List ℕ) → SheetOf sys ps s → (p : ℕ) → p ≡ countIn s
+    → SectionsOf (system sys) ps (lentB p s) (lentC p s)
+sections-lent sys ps s h p is =
+    let b : 3 + 2 * p - 3 ≡ 2 * countIn s = omega arith in
+    let c : 3 + 2 * p + 1 ≡ 4 + 2 * countIn s = omega arith in
+    record {
+      last = facts-of sys (h .known) .last;
+      sound = h .sound;
+      sectionB = ap (λ (n : ℕ). take n (drop 3 s)) b ∙ ap locationsIn (h .whole) ∙ locations-back sys ps;
+      sectionC = rest-part (3 + 2 * p + 1) s ∙ ap (λ (n : ℕ). drop n s) c ∙ ap wordsIn (h .whole) ∙ words-back sys ps;
+    }
+
 -- ---- the packet at a place of section C
 
 module _ (ws : List ℕ) (at : ℕ) (within : at ≤ length ws) where
-  packet-there : (p : Packet) (r : List ℕ) → drop at ws ≡ words p ++ r → at + bytesOf p ≤ length ws
+  pub packet-there : (p : Packet) (r : List ℕ) → drop at ws ≡ words p ++ r → at + bytesOf p ≤ length ws
   packet-there p r e =
       let d = length-drop at ws in
       let l : length (drop at ws) ≡ length (words p) + length r = ap length e ∙ length-append (words p) r in
       let w = packet-words p in
       omega arith
 
-  dc-there : (p : Packet) (r : List ℕ) → length (p .user) < 256 → drop at ws ≡ words p ++ r → low (getD ws (at + 5) 0) ≡ length (p .user)
+  pub dc-there : (p : Packet) (r : List ℕ) → length (p .user) < 256 → drop at ws ≡ words p ++ r → low (getD ws (at + 5) 0) ≡ length (p .user)
   unfolding words coded
   dc-there p r many e = ap low (sym (getD-drop at ws 5 0) ∙ ap (λ (t : List ℕ). getD t 5 0) e) ∙ low-word (length (p .user)) many
 

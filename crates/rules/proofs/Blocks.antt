@@ -13,7 +13,7 @@ use native.Mathlib.Omega.{arith}
 use lib.Dec.{eqb, ltb, leb}
 use lib.ListN.{length, getD, take, drop, length-append, length-take, length-drop, take-append-drop, List·getD-append}
 use lib.Seq.{getD-take, getD-drop, getD-append-add, ext-getD, take-at, drop-at, length-take-le, take-append-le, drop-append-le}
-use borrow.Author.Tests.{ltb-true, ltb-false, leb-true, leb-false, lt-ltb, le-leb}
+use borrow.Author.Tests.{ltb-true, ltb-false, leb-true, leb-false, eqb-true, lt-ltb, le-leb}
 use Rattle.rules.specs.Base.{count, sum, none, one, Bytes}
 use Rattle.rules.specs.Systems.{System, hd1080-60i, hd1080-50i, hd720-60p, known, system}
 use Rattle.rules.specs.Blocks.{Run, blockStart, shift, width, userRun, runs, sizes, blockSizes, areaSize}
@@ -310,6 +310,17 @@ facts-of sys e = go (eqb sys 1) (eqb sys 2) (eqb sys 3) e
     go false true c e = facts12 1125 (omega arith)
     go false false true e = facts10 750 (omega arith)
     go false false false e = never (cc)
+
+-- a known system's number is small
+pub known-low : (sys : ℕ) → known sys ≡ true → sys ≤ 3
+unfolding known
+known-low sys e = go (eqb sys 1) refl (eqb sys 2) refl (eqb sys 3) refl e
+  where
+    go : (a : Bool) → eqb sys 1 ≡ a → (b : Bool) → eqb sys 2 ≡ b → (c : Bool) → eqb sys 3 ≡ c → (a || (b || c)) ≡ true → sys ≤ 3
+    go true p b q c r e = let z = eqb-true sys 1 p in omega arith
+    go false p true q c r e = let z = eqb-true sys 2 q in omega arith
+    go false p false q true r e = let z = eqb-true sys 3 r in omega arith
+    go false p false q false r e = never (cc)
 
 -- ---- the laying order by number
 

@@ -10,7 +10,7 @@ use native.Mathlib.Numerals.{add-one}
 use native.Mathlib.Omega.{arith}
 use lib.Dec.{leb}
 use lib.ListN.{length, getD, take, set, length-set}
-use lib.Seq.{take-suc, take-all, take-suc-set}
+use lib.Seq.{take-suc, take-all, take-suc-set, length-take-le}
 use borrow.Author.Tests.{eq-eqb, ne-eqb, le-leb, lt-leb}
 use Rattle.rules.specs.Lister.{fileOf, numbersOf}
 use Rattle.rules.proofs.Lister.{file-length}
@@ -108,3 +108,14 @@ module _ (file : List ℕ) where
       → (length file / 2 ≡ length (sheetIn file)) × (take (length file / 2) s ≡ sheetIn file)
   unfolding sheetIn
   whole h e s q = rw (le-leb (length file) 65536 h, eq-eqb (length file % 2) 0 e) (sym (numbers-length file), q)
+
+-- the file of a sheet that has room in its buffer
+pub encoded : (n k room : ℕ) (s file : List ℕ) → n ≤ length s → 2 * length s ≤ room → (k ≡ length (fileIn room (take n s))) × (take k file ≡ fileIn room (take n s))
+    → take (2 * n) file ≡ fileOf (take n s)
+unfolding fileIn
+encoded n k room s file h r e =
+    let l = length-take-le n s h in
+    let f = file-length (take n s) in
+    let w : fileIn room (take n s) ≡ fileOf (take n s) = rw (le-leb (2 * length (take n s)) room (omega arith)) in
+    let m : k ≡ 2 * n = (e .0 ∙ ap length w) ∙ (let g = f in omega arith) in
+    ap (λ (x : ℕ). take x file) (sym m) ∙ e .1 ∙ w

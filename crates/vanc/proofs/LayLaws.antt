@@ -1,6 +1,6 @@
 -- What each way through the code of `laying` says of the rules, over plain values.
 --
--- In order: fill; the frame; packing 1; packing 2; the sections of a sheet; the room (12); the tests before it.
+-- In order: fill; the frame; packing 1; packing 2; the room (12); the tests before it.
 -- Assumes nothing.
 use Prim.Native.Nat.{ℕ, zero, suc, _+_, _-_, _*_, _/_, _≤_, _<_}
 use mathlib.Core.Path.{_≡_, refl, sym, ap, ap₂, _∙_, subst}
@@ -16,7 +16,7 @@ use Rattle.rules.specs.Base.{sum, joined}
 use Rattle.rules.specs.Systems.{System, known, system}
 use Rattle.rules.specs.Packet.{Packet}
 use Rattle.rules.specs.Danc.{written, string, stringBytes, packetsOf}
-use Rattle.rules.specs.Sheet.{sheetOf, locations, allWords, systemIn, countIn}
+use Rattle.rules.specs.Sheet.{systemIn, countIn}
 use Rattle.rules.specs.Blocks.{shift, width, runs, blockSizes, areaSize, scatter}
 use Rattle.rules.specs.Packing1.{flat, packs, packsOf}
 use Rattle.rules.specs.Packing2.{fill, longPacks, stringRoom, longCount}
@@ -24,10 +24,9 @@ use Rattle.rules.specs.Packings.{isPacking, userBytes, laidBytes, capacity, nee
 use Rattle.rules.specs.Numbers.{listed, refused}
 use Rattle.rules.specs.Laying.{shaped, laidOf, areaOf}
 use Rattle.rules.specs.Lister.{testedOf}
-use Rattle.rules.specs.Demands.{Tests, Asked, Lays}
+use Rattle.rules.specs.Demands.{Tests, Lays}
 use Rattle.rules.specs.declared.Laid.{Laid}
 use Rattle.rules.specs.declared.Tested.{Tested}
-use Rattle.rules.proofs.Sheets.{count-back, locations-back, words-back}
 use Rattle.rules.proofs.Basics.{written-back}
 use Rattle.rules.proofs.Words.{words-room}
 use Rattle.rules.proofs.Strings.{string-room}
@@ -39,8 +38,8 @@ use Rattle.frame.specs.Systems.{figuresOf}
 use Rattle.frame.specs.Bytes.{areaWith}
 use Rattle.frame.specs.declared.Figures.{Figures}
 use Rattle.frame.proofs.Laws.{each-system}
-use Rattle.danc.proofs.Laws.{rest-part}
 use Rattle.packing1.specs.Fives.{SectionsOf, LaysFives, LaysString}
+use Rattle.packing1.proofs.FivesLaws.{lentB, lentC, sections-lent}
 use Rattle.packing2.specs.Long.{Padded, longFits, longAfter, CountOf}
 use Rattle.vanc.specs.Lay.{LaysInto, lastTest, LaysList}
 
@@ -162,44 +161,6 @@ laid2 sys ls ws s us area after w v a = record { laid = done }
         v p ∙ rw (kn, le-leb (length ws) (stringRoom sizes) (omega arith), t, bytes2 sizes ps) in
         spread-laid 2 sys ps area kn own f us (drop (sum sizes) (fill 9360)) after u a
 
--- ---- the sections of a sheet
-
-module _ (sys : ℕ) (ps : List Packet) where
-  -- what is lent as locations and as words
-  locations-lent : take (3 + 2 * length ps - 3) (drop 3 (sheetOf sys ps)) ≡ locations ps
-  locations-lent =
-      let e : 3 + 2 * length ps - 3 ≡ 2 * countIn (sheetOf sys ps) = let c = count-back sys ps in omega arith in
-      rw e (locations-back sys ps)
-
-  words-lent : drop (3 + 2 * length ps + 1) (sheetOf sys ps) ≡ allWords ps
-  words-lent =
-      let e : 3 + 2 * length ps + 1 ≡ 4 + 2 * countIn (sheetOf sys ps) = let c = count-back sys ps in omega arith in
-      rw e (words-back sys ps)
-
--- what is lent of a sheet with p locations
-abbrev pub lentB : ℕ → List ℕ → List ℕ
-lentB p s = take (3 + 2 * p - 3) (drop 3 s)
-
-abbrev pub lentC : ℕ → List ℕ → List ℕ
-lentC p s = take (length s - (3 + 2 * p + 1)) (drop (3 + 2 * p + 1) s)
-
--- they are the sections of the sheet that is asked for
-module _ (k sys : ℕ) (ps : List Packet) (s area : List ℕ) (a : Asked k sys ps s area) (p : ℕ) (is : p ≡ countIn s) where
-  counts : p ≡ length ps
-  counts = is ∙ ap countIn (a .sheet .whole) ∙ count-back sys ps
-
-  sections : SectionsOf (system sys) ps (lentB p s) (lentC p s)
-  sections =
-      record {
-        last = facts-of sys (a .sheet .known) .last;
-        sound = a .sheet .sound;
-        sectionB = ap₂ (λ (n : ℕ) (t : List ℕ). take (3 + 2 * n - 3) (drop 3 t)) counts (a .sheet .whole) ∙ locations-lent sys ps;
-        sectionC =
-            rest-part (3 + 2 * p + 1) s
-            ∙ ap₂ (λ (n : ℕ) (t : List ℕ). drop (3 + 2 * n + 1) t) counts (a .sheet .whole)
-            ∙ words-lent sys ps;
-      }
-
 -- ---- the room
 
 -- the figures that the code compares, for a list that passed the tests before
@@ -256,7 +217,7 @@ module _ (k : ℕ) (t : Tested) (s area : List ℕ) (one : k ≡ 1) (g : Figures
             subst (λ (j : ℕ). Given j sys ps area (success (t .packs) (t .bytes)) after) (sym one)
             (within-room 1 sys ps area (success (t .packs) (t .bytes)) after f
             (ap (λ (z : Tested). success (z .packs) (z .bytes)) e)
-            (u .laid ps (a .sheet .known) (a .own) (sections k sys ps s area a p is) f));
+            (u .laid ps (a .sheet .known) (a .own) (sections-lent sys ps s (a .sheet) p is) f));
       }
 
 -- packing 2
@@ -290,7 +251,7 @@ module _ (k : ℕ) (t : Tested) (s area : List ℕ) (other : k ≡ 1 → ⊥) (g
             subst (λ (j : ℕ). Given j sys ps area (success n (t .bytes)) after) (sym (two k (a .packing) other))
             (within-room 2 sys ps area (success n (t .bytes)) after f
             (ap₂ success m (w .1))
-            (u .laid ps (a .sheet .known) (a .own) (sections k sys ps s area a p is) f));
+            (u .laid ps (a .sheet .known) (a .own) (sections-lent sys ps s (a .sheet) p is) f));
       }
 
 -- ---- the tests before it

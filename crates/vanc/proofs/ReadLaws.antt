@@ -4,14 +4,14 @@
 -- Assumes nothing.
 use Prim.Native.Nat.{ℕ, zero, suc, _+_, _-_, _/_, _%_, _≤_, _<_}
 use mathlib.Core.Path.{_≡_, refl, sym, ap, _∙_}
-use mathlib.Core.Bool.{Bool, true, false, cond, _&&_, _||_}
+use mathlib.Core.Bool.{Bool, true, false, cond, _&&_}
 use mathlib.Core.List.{List, [], _∷_, _++_}
 use native.Mathlib.Nat.{sub-zero}
 use native.Mathlib.Omega.{arith}
 use lib.Dec.{eqb, leb}
 use lib.ListN.{length, getD, take, drop, length-append, length-take}
 use lib.Seq.{take-take, take-at}
-use borrow.Author.Tests.{eqb-true, le-leb, eq-eqb, ne-eqb}
+use borrow.Author.Tests.{le-leb, eq-eqb, ne-eqb}
 use Rattle.rules.specs.Base.{allIs, sum, Bytes}
 use Rattle.rules.specs.Systems.{System, known, system}
 use Rattle.rules.specs.Packet.{Packet}
@@ -28,7 +28,7 @@ use Rattle.rules.proofs.Basics.{never, take-bytes}
 use Rattle.rules.proofs.Sheets.{sheet-length}
 use Rattle.rules.proofs.Long.{long-bytes}
 use Rattle.rules.proofs.Strings.{StringOf, string-laid, string-room}
-use Rattle.rules.proofs.Blocks.{gather-length, facts-of}
+use Rattle.rules.proofs.Blocks.{gather-length, facts-of, known-low}
 use Rattle.rules.proofs.Reading.{reads}
 use Rattle.frame.specs.Bytes.{collected, bytesAfter}
 use Rattle.frame.specs.Systems.{figuresOf}
@@ -283,16 +283,6 @@ pub record Frame (sys : ℕ) : Type 0 where
   pub some : 0 < sum (blockSizes (system sys))
   pub most : sum (blockSizes (system sys)) ≤ 9360
   pub fifths : sum (blockSizes (system sys)) % 5 ≡ 0
-
-known-low : (sys : ℕ) → known sys ≡ true → sys ≤ 3
-unfolding known
-known-low sys e = go (eqb sys 1) refl (eqb sys 2) refl (eqb sys 3) refl e
-  where
-    go : (a : Bool) → eqb sys 1 ≡ a → (b : Bool) → eqb sys 2 ≡ b → (c : Bool) → eqb sys 3 ≡ c → (a || (b || c)) ≡ true → sys ≤ 3
-    go true p b q c r e = let z = eqb-true sys 1 p in omega arith
-    go false p true q c r e = let z = eqb-true sys 2 q in omega arith
-    go false p false q true r e = let z = eqb-true sys 3 r in omega arith
-    go false p false q false r e = never (cc)
 
 bytes-known : (sys : ℕ) → known sys ≡ true → (0 < sum (blockSizes (system sys))) × (sum (blockSizes (system sys)) ≤ 9360)
 unfolding runs width

@@ -2,7 +2,7 @@
 // written last, so that on a refusal it "is unchanged". Quotations are from document 01.
 use rules::Laid;
 use rules::Tested;
-ghost use Prim.Native.Nat.{_<_};
+use sheet::wide;
 ghost use mathlib.Core.Path.{_≡_};
 ghost use mathlib.Core.Bool.{true};
 ghost use Rattle.rules.specs.Systems.{system};
@@ -10,13 +10,6 @@ ghost use Rattle.rules.specs.Numbers.{refused};
 ghost use Rattle.rules.specs.Laying.{shaped, laidOf};
 ghost use Rattle.rules.specs.Demands.{Lays};
 ghost use Rattle.vanc.specs.Lay.{LaysInto, LaysList};
-
-// A number of the sheet as a place, so that no caller has to show that the cast keeps it.
-fn wide(x: u16) -> usize
-    ensures { λ r. ⌜ (r ≡ x) × (r < 65536) ⌝ }
-{
-    x as usize
-}
 
 // "On refusal the later figures are 0".
 fn refusal(number: u64, place: u64) -> Laid

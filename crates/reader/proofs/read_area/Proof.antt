@@ -5,7 +5,7 @@ use native.Mathlib.Omega.{arith}
 use lib.Seq.{length-take-le}
 use borrow.Author.Needs.{needs}
 use Rattle.rules.proofs.Reading.{read-within}
-use Rattle.reader.proofs.Laws.{encoded}
+use Rattle.sheet_file.proofs.Laws.{encoded}
 use Rattle.reader.proofs.read_area.Statement.{statement}
 use Rattle.reader.proofs.read_area.Tie as tie
 
