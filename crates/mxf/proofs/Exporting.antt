@@ -1,0 +1,323 @@
+-- What writing gives back and the element buffer afterwards meet the contract `Writes`; and what is written, reading gives back.
+--
+-- In order: 18; the tests; as it is given back; the way back; the contract.
+-- Assumes nothing.
+use Prim.Native.Nat.{ℕ, suc, _+_, _*_, _/_, _≤_}
+use mathlib.Core.Path.{_≡_, refl, sym, ap, ap₂, _∙_, subst}
+use mathlib.Core.Bool.{Bool, true, false, cond, _&&_}
+use mathlib.Core.List.{List, [], _∷_, _++_, map}
+use native.Mathlib.Omega.{arith}
+use lib.Dec.{eqb, leb}
+use lib.ListN.{length, take, drop, length-append, length-map}
+use lib.Seq.{take-at}
+use borrow.Author.Tests.{le-leb, leb-true, eqb-false, ne-eqb}
+use Rattle.rules.specs.Base.{All, none, one, joined}
+use Rattle.rules.specs.Systems.{System, known, system}
+use Rattle.rules.specs.Packet.{Packet, Sound}
+use Rattle.rules.specs.Danc.{bytesOf, stringBytes}
+use Rattle.rules.specs.Sheet.{limit, systemIn, allWords, sheetOf}
+use Rattle.rules.specs.Numbers.{Outcome, listed, refused, unless, andThen}
+use Rattle.rules.specs.Laying.{shaped, sheetTests}
+use Rattle.rules.specs.Reading.{bufferOf}
+use Rattle.rules.specs.Demands.{SheetOf}
+use Rattle.rules.proofs.Basics.{never}
+use Rattle.rules.proofs.Blocks.{facts-of, known-low}
+use Rattle.rules.proofs.Words.{words-room}
+use Rattle.rules.proofs.Sheets.{Sixteen, system-back, sheet-read, sheet-laid, sheet-unique, sheet-room, unless-from, list-refused}
+use Rattle.mxf.specs.Element.{Padded, bare, packetsOf, coding, structure, value, element, elementOf}
+use Rattle.mxf.specs.Served.{serves, served, fiRead, givenBack, allBack}
+use Rattle.mxf.specs.Writing.{lined, export, withRoom, writing, writtenOf, elementIn, write, elementAfter}
+use Rattle.mxf.specs.Reading.{hasRoom, readOf, read, sheetAfter}
+use Rattle.mxf.specs.Demands.{Lined, Held, Gives, Exported, Unwritten, Writes}
+use Rattle.mxf.specs.declared.ElementWritten.{ElementWritten}
+use Rattle.mxf.proofs.Elements.{structure-length, value-length, fi-small}
+use Rattle.mxf.proofs.Accepting.{accepted}
+
+-- ---- 18
+
+module _ (sys : ℕ) (fi : Bool) where
+  -- with a line each, none is refused
+  lined-read : (ps : List Packet) (i : ℕ) (o : Outcome) → All Lined (served sys fi ps) → lined sys fi i ps o ≡ o
+  lined-read [] i o g = refl
+  lined-read (p ∷ ps) i o g = go (serves sys fi (p .flags)) g (lined-read ps (suc i) o)
+    where
+      go : (t : Bool) → All Lined (cond t (p ∷ served sys fi ps) (served sys fi ps))
+          → (All Lined (served sys fi ps) → lined sys fi (suc i) ps o ≡ o)
+          → cond (t && eqb (p .line) 0) (refused 18 i) (lined sys fi (suc i) ps o) ≡ o
+      go true (one l ls) later = rw (ne-eqb (p .line) 0 l) (later ls)
+      go false ls later = later ls
+
+  -- what is not refused has a line each
+  lined-only : (ps : List Packet) (i : ℕ) (o : Outcome) (qs : List Packet) → lined sys fi i ps o ≡ listed qs
+      → All Lined (served sys fi ps) × (o ≡ listed qs)
+  lined-only [] i o qs e = (none, e)
+  lined-only (p ∷ ps) i o qs e = go (serves sys fi (p .flags)) (eqb (p .line) 0) refl e (lined-only ps (suc i) o qs)
+    where
+      go : (t z : Bool) → eqb (p .line) 0 ≡ z → cond (t && z) (refused 18 i) (lined sys fi (suc i) ps o) ≡ listed qs
+          → (lined sys fi (suc i) ps o ≡ listed qs → All Lined (served sys fi ps) × (o ≡ listed qs))
+          → All Lined (cond t (p ∷ served sys fi ps) (served sys fi ps)) × (o ≡ listed qs)
+      go true true z e later = never (cc)
+      go true false z e later = let w = later e in (one (eqb-false (p .line) 0 z) (w .0), w .1)
+      go false z q e later = later e
+
+  lined-refused : (ps : List Packet) (i : ℕ) (o : Outcome) (n k : ℕ) → lined sys fi i ps o ≡ refused n k → (o ≡ refused n k → 1 ≤ n) → 1 ≤ n
+  lined-refused [] i o n k e f = f e
+  lined-refused (p ∷ ps) i o n k e f = go (serves sys fi (p .flags) && eqb (p .line) 0) e (λ z. lined-refused ps (suc i) o n k z f)
+    where
+      go : (t : Bool) → cond t (refused 18 i) (lined sys fi (suc i) ps o) ≡ refused n k → (lined sys fi (suc i) ps o ≡ refused n k → 1 ≤ n) → 1 ≤ n
+      go true e later = let m : n ≡ 18 = cc in omega arith
+      go false e later = later e
+
+-- ---- the tests
+
+module _ (fi : Bool) (s : List ℕ) (room : ℕ) where
+  -- the sheet of a list
+  module _ (sys : ℕ) (ps : List Packet) (g : SheetOf sys ps s) where
+    own-system : systemIn s ≡ sys
+    own-system = ap systemIn (g .whole) ∙ system-back sys ps
+
+    writing-is : writing fi s room ≡ withRoom sys room (export sys fi ps)
+    unfolding writing
+    writing-is = rw (sheet-read sys ps s g, own-system)
+
+    written : All Lined (served sys fi ps) → length (elementOf sys (served sys fi ps)) ≤ room → writing fi s room ≡ listed (served sys fi ps)
+    written l h =
+        writing-is
+        ∙ ap (withRoom sys room) (lined-read sys fi ps 0 (listed (served sys fi ps)) l)
+        ∙ rw (le-leb (length (elementOf sys (served sys fi ps))) room h)
+
+    written-only : (qs : List Packet) → writing fi s room ≡ listed qs
+        → All Lined (served sys fi ps) × (length (elementOf sys (served sys fi ps)) ≤ room)
+    written-only qs e = go (export sys fi ps) refl (sym writing-is ∙ e)
+      where
+        fitted : (rs : List Packet) (t : Bool) → leb (length (elementOf sys rs)) room ≡ t → unless 17 t (listed rs) ≡ listed qs
+            → length (elementOf sys rs) ≤ room
+        fitted rs true q e = leb-true (length (elementOf sys rs)) room q
+        fitted rs false q e = never (cc)
+
+        go : (o : Outcome) → export sys fi ps ≡ o → withRoom sys room o ≡ listed qs
+            → All Lined (served sys fi ps) × (length (elementOf sys (served sys fi ps)) ≤ room)
+        go (refused n i) q e = never (cc)
+        go (listed rs) q e =
+            let w = lined-only sys fi ps 0 (listed (served sys fi ps)) rs q in
+            let same : rs ≡ served sys fi ps = let z = w .1 in cc in
+            let f = fitted rs (leb (length (elementOf sys rs)) room) refl e in
+            (w .0, subst (λ (rs : List Packet). length (elementOf sys rs) ≤ room) same f)
+
+  untested : (n i : ℕ) → sheetTests s ≡ refused n i → writing fi s room ≡ refused n i
+  unfolding writing
+  untested n i t = rw t
+
+  -- a refusal's number is not 0
+  writing-refused : (n i : ℕ) → writing fi s room ≡ refused n i → 1 ≤ n
+  unfolding writing sheetTests
+  writing-refused n i e = tested (sheetTests s) refl e
+    where
+      sys : ℕ
+      sys = systemIn s
+
+      fitted : (rs : List Packet) (t : Bool) → unless 17 t (listed rs) ≡ refused n i → 1 ≤ n
+      fitted rs true e = never (cc)
+      fitted rs false e = let k : n ≡ 17 = cc in omega arith
+
+      roomy : (o : Outcome) → withRoom sys room o ≡ refused n i → (o ≡ refused n i → 1 ≤ n) → 1 ≤ n
+      roomy (listed rs) e f = fitted rs (leb (length (elementOf sys rs)) room) e
+      roomy (refused m j) e f = f e
+
+      tests : (m j : ℕ) → sheetTests s ≡ refused m j → 1 ≤ m
+      tests m j e =
+          unless-from 1 2 (shaped s) _ m j
+          (unless-from 1 3 (known (systemIn s)) _ m j (λ z. let h = list-refused (system (systemIn s)) s m j z in omega arith) (omega arith))
+          (omega arith) e
+
+      tested : (o : Outcome) → sheetTests s ≡ o → withRoom sys room (andThen o (export sys fi)) ≡ refused n i → 1 ≤ n
+      tested (listed ps) q e =
+          roomy (export sys fi ps) e (λ z. lined-refused sys fi ps 0 (listed (served sys fi ps)) n i z (λ w. never (cc)))
+      tested (refused m j) q e = tests n i (q ∙ e)
+
+-- ---- as it is given back
+
+module _ (sys : ℕ) (fi : Bool) where
+  -- YCF comes back, and so the structure is the same
+  structure-back : (p : Packet) → structure sys (bare (givenBack sys fi p)) ≡ structure sys (bare p)
+  unfolding structure coding
+  structure-back p =
+      let f = fi-small sys fi in
+      let e : (fiRead sys fi + 2 * (p .flags / 2)) / 2 ≡ p .flags / 2 = omega arith in
+      rw e
+
+  joined-back : (qs : List Packet) → joined (structure sys) (map bare (map (givenBack sys fi) qs)) ≡ joined (structure sys) (map bare qs)
+  joined-back [] = refl
+  joined-back (q ∷ qs) = ap₂ (λ (a b : List ℕ). a ++ b) (structure-back q) (joined-back qs)
+
+  element-back : (qs : List Packet) → elementOf sys (map (givenBack sys fi) qs) ≡ elementOf sys qs
+  unfolding element value
+  element-back qs =
+      let n : length (map bare (map (givenBack sys fi) qs)) ≡ length (map bare qs) =
+      length-map (map (givenBack sys fi) qs) bare ∙ length-map qs (givenBack sys fi) ∙ sym (length-map qs bare) in
+      rw (n, joined-back qs)
+
+  held-back : (qs : List Packet) → All (Sound (system sys)) qs → All Lined qs → All (Held sys fi) (map bare (map (givenBack sys fi) qs))
+  held-back [] g l = none
+  held-back (q ∷ qs) (one g gs) (one l ls) =
+      let f = fi-small sys fi in
+      let h = g .flags in
+      one {x = bare (givenBack sys fi q)}
+      (record {
+        sound =
+            record { did = g .did; sdid = g .sdid; many = g .many; user = g .user; line = g .line; flags = omega arith };
+        lined = l;
+        own = omega arith;
+        padding = λ i. omega arith;
+      })
+      (held-back qs gs ls)
+
+  packets-back : (qs : List Packet) → packetsOf (map bare qs) ≡ qs
+  packets-back [] = refl
+  packets-back (q ∷ qs) = ap (λ (rs : List Packet). q ∷ rs) (packets-back qs)
+
+  -- a packet has 272 bytes of structure at most
+  pub joined-short : (y : System) (qs : List Packet) → All (Sound y) qs → length (joined (structure sys) (map bare qs)) ≤ 272 * length qs
+  joined-short y [] g = omega arith
+  joined-short y (q ∷ qs) (one g gs) =
+      let h = joined-short y qs gs in
+      let k = structure-length sys (bare q) in
+      let m = g .many in
+      let l = length-append (structure sys (bare q)) (joined (structure sys) (map bare qs)) in
+      omega arith
+
+  pub served-sound : (P : Packet → Type 0) (ps : List Packet) → All P ps → All P (served sys fi ps)
+  served-sound P [] none = none
+  served-sound P (p ∷ ps) (one g gs) = go (serves sys fi (p .flags)) (served-sound P ps gs)
+    where
+      go : (t : Bool) → All P (served sys fi ps) → All P (cond t (p ∷ served sys fi ps) (served sys fi ps))
+      go true later = one g later
+      go false later = later
+
+  -- no more packets, and no more words, than the sheet has
+  pub served-few : (ps : List Packet) → (length (served sys fi ps) ≤ length ps) × (stringBytes (allBack sys fi ps) ≤ stringBytes ps)
+  served-few [] = (omega arith, omega arith)
+  served-few (p ∷ ps) = go (serves sys fi (p .flags)) (served-few ps)
+    where
+      go : (t : Bool) → (length (served sys fi ps) ≤ length ps) × (stringBytes (allBack sys fi ps) ≤ stringBytes ps)
+          → (length (cond t (p ∷ served sys fi ps) (served sys fi ps)) ≤ suc (length ps))
+          × (stringBytes (map (givenBack sys fi) (cond t (p ∷ served sys fi ps) (served sys fi ps))) ≤ bytesOf p + stringBytes ps)
+      go true w = let a = w .0 in let b = w .1 in (omega arith, omega arith)
+      go false w = let a = w .0 in let b = w .1 in (omega arith, omega arith)
+
+  -- the element that is written, its packets give as they come back
+  pub written-gives : (ps : List Packet) → All (Sound (system sys)) ps → All Lined (served sys fi ps) → length ps ≤ limit
+      → Gives sys fi (map bare (allBack sys fi ps)) (elementOf sys (served sys fi ps))
+  unfolding limit
+  written-gives ps g l few =
+      let qs : List Packet = served sys fi ps in
+      let xs : List Padded = map bare (allBack sys fi ps) in
+      let gs = served-sound (Sound (system sys)) ps g in
+      let w = served-few ps in
+      let w0 = w .0 in
+      let n : length xs ≡ length qs = length-map (allBack sys fi ps) bare ∙ length-map qs (givenBack sys fi) in
+      let j = ap length (joined-back qs) in
+      let h = joined-short (system sys) qs gs in
+      let v = value-length sys xs in
+      record { held = held-back qs gs l; few = omega arith; short = omega arith; bytes = sym (element-back qs) }
+
+-- ---- the way back
+
+module _ (fi : Bool) (s : List ℕ) (hs : Sixteen s) (sys : ℕ) (ps : List Packet) (g : SheetOf sys ps s) (l : All Lined (served sys fi ps)) where
+  -- the words of the sheet are at most 65,535, and those that are served are no more
+  few-words : length (allWords (allBack sys fi ps)) ≤ 65535
+  few-words =
+      let f = facts-of sys (g .known) in
+      let k3 = known-low sys (g .known) in
+      let r = sheet-room sys (system sys) ps (omega arith) (f .last) (g .sound) (g .few) in
+      let w = r .0 (subst Sixteen (g .whole) hs) in
+      let k = served-few sys fi ps .1 in
+      let m = words-room (allBack sys fi ps) in
+      omega arith
+
+  back-room : (room : ℕ) → length (sheetOf sys (allBack sys fi ps)) ≤ room → hasRoom sys room (allBack sys fi ps) ≡ true
+  back-room room h = rw (le-leb (length (allWords (allBack sys fi ps))) 65535 few-words, le-leb (length (sheetOf sys (allBack sys fi ps))) room h)
+
+  -- reading what was written
+  pub comes-back : (e sheet : List ℕ) → e ≡ elementOf sys (served sys fi ps) → length (sheetOf sys (allBack sys fi ps)) ≤ length sheet
+      → (read sys fi e sheet ≡ readOf sys (listed (allBack sys fi ps)))
+      × (sheetAfter sys fi e sheet ≡ bufferOf sys sheet (listed (allBack sys fi ps)))
+  unfolding read sheetAfter
+  comes-back e sheet q h =
+      let xs : List Padded = map bare (allBack sys fi ps) in
+      let same = packets-back sys fi (allBack sys fi ps) in
+      let given = subst (Gives sys fi xs) (sym q) (written-gives sys fi ps (g .sound) l (g .few)) in
+      let few : length xs ≤ limit =
+      let a = served-few sys fi ps .0 in
+      let b = g .few in
+      let c = length-map (allBack sys fi ps) bare in
+      let d = length-map (served sys fi ps) (givenBack sys fi) in
+      omega arith in
+      let roomy = ap (hasRoom sys (length sheet)) same ∙ back-room (length sheet) h in
+      let w = accepted sys fi e (length sheet) (g .known) xs given few roomy ∙ ap listed same in
+      (ap (readOf sys) w, ap (bufferOf sys sheet) w)
+
+-- ---- the contract
+
+-- the contract of writing follows from its first two fields, over a sheet of sixteen-bit numbers
+pub writes : (fi : Bool) (s target : List ℕ) (r : ElementWritten) (after : List ℕ) → Sixteen s → r ≡ write fi s target
+    → after ≡ elementAfter fi s target → Writes fi s target r after
+unfolding write elementAfter
+writes fi s target r after hs er ea =
+    record {
+      answer = er;
+      buffer = ea;
+      demand1 = λ n. unwritten (writing fi s (length target)) er ea n;
+      exports =
+          record {
+            written = λ sys ps x. done sys ps x;
+            only = λ n. only (writing fi s (length target)) refl (ap (λ (x : ElementWritten). x .number) er) n;
+          };
+      comesBack = record { back = λ sys ps sheet g n h. back sys ps sheet g (only (writing fi s (length target)) refl (number er) n) h };
+    }
+  where
+    number : r ≡ writtenOf (systemIn s) (writing fi s (length target)) → r .number ≡ writtenOf (systemIn s) (writing fi s (length target)) .number
+    number e = ap (λ (x : ElementWritten). x .number) e
+
+    unwritten : (o : Outcome) → r ≡ writtenOf (systemIn s) o → after ≡ elementIn (systemIn s) target o → (r .number ≡ 0 → ⊥) → Unwritten r target after
+    unwritten (listed ps) p q n = absurd (n (ap (λ (x : ElementWritten). x .number) p))
+    unwritten (refused m i) p q n =
+        record { kept = q; packets = ap (λ (x : ElementWritten). x .packets) p; bytes = ap (λ (x : ElementWritten). x .bytes) p }
+
+    done : (sys : ℕ) (ps : List Packet) → Exported fi sys ps s target
+        → (r ≡ writtenOf sys (listed (served sys fi ps))) × (after ≡ elementIn sys target (listed (served sys fi ps)))
+    done sys ps x =
+        let w = written fi s (length target) sys ps (x .sheet) (x .lined) (x .room) in
+        let y = own-system fi s (length target) sys ps (x .sheet) in
+        (er ∙ ap₂ writtenOf y w, ea ∙ ap₂ (λ (n : ℕ) (o : Outcome). elementIn n target o) y w)
+
+    only : (o : Outcome) → writing fi s (length target) ≡ o → r .number ≡ writtenOf (systemIn s) o .number → r .number ≡ 0
+        → (sys : ℕ) × (ps : List Packet) × Exported fi sys ps s target
+    only (refused m i) q p n = let h = writing-refused fi s (length target) m i q in absurd (omega arith)
+    only (listed qs) q p n = tested (sheetTests s) refl
+      where
+        tested : (o : Outcome) → sheetTests s ≡ o → (sys : ℕ) × (ps : List Packet) × Exported fi sys ps s target
+        tested (listed ps) t =
+            let g = sheet-laid s ps t in
+            let w = written-only fi s (length target) (systemIn s) ps g qs q in
+            (systemIn s, ps, record { sheet = g; lined = w .0; room = w .1 })
+        tested (refused n i) t = never (clash n i t)
+          where
+            clash : (n i : ℕ) → sheetTests s ≡ refused n i → _≡_ {A = ℕ} 0 1
+            clash n i t = let z : writing fi s (length target) ≡ refused n i = untested fi s (length target) n i t in cc
+
+    back : (sys : ℕ) (ps : List Packet) (sheet : List ℕ) → SheetOf sys ps s → (sys : ℕ) × (ps : List Packet) × Exported fi sys ps s target
+        → length (sheetOf sys (allBack sys fi ps)) ≤ length sheet
+        → (read sys fi (take (r .bytes) after) sheet ≡ readOf sys (listed (allBack sys fi ps)))
+        × (sheetAfter sys fi (take (r .bytes) after) sheet ≡ bufferOf sys sheet (listed (allBack sys fi ps)))
+    back sys ps sheet g x h =
+        let u = sheet-unique (x .0) sys (x .1) ps s (x .2 .sheet) g in
+        let lines = subst (λ (qs : List Packet). All Lined (served (x .0) fi qs)) (u .1) (x .2 .lined) in
+        let lined = subst (λ (n : ℕ). All Lined (served n fi ps)) (u .0) lines in
+        let w = done (x .0) (x .1) (x .2) in
+        let qs : List Packet = served (x .0) fi (x .1) in
+        let b : r .bytes ≡ length (elementOf (x .0) qs) = ap (λ (y : ElementWritten). y .bytes) (w .0) in
+        let front : take (r .bytes) after ≡ elementOf (x .0) qs =
+        ap (take (r .bytes)) (w .1) ∙ take-at (elementOf (x .0) qs) (drop (length (elementOf (x .0) qs)) target) (r .bytes) (sym b) in
+        let same : elementOf (x .0) qs ≡ elementOf sys (served sys fi ps) = ap₂ (λ (n : ℕ) (rs : List Packet). elementOf n (served n fi rs)) (u .0) (u .1) in
+        comes-back fi s hs sys ps g lined (take (r .bytes) after) sheet (front ∙ same) h

@@ -1,0 +1,246 @@
+-- What an element says that has been judged and found right: from a list, which is no refusal, back to the facts of each field.
+--
+--   field-listed       a field: its bytes are there, it is right, and what comes after it is a list
+--   Structure          the facts of a structure without fault
+--   structures-listed  one structure and more: the first is without fault and shows the first packet, the others show the others
+--   structures-none    no structure: no byte, no packet
+--   structures-count   N structures show N packets
+--   Head               the facts of key, length and N
+--   judged-listed      the whole element
+--   judged-number      a refusal is 19
+-- Assumes nothing.
+use Prim.Native.Nat.{ℕ, zero, suc, _+_, _≤_}
+use mathlib.Core.Path.{_≡_, refl, sym, ap, ap₂, _∙_}
+use mathlib.Core.Bool.{Bool, true, false, cond, _&&_}
+use mathlib.Core.List.{List, [], _∷_}
+use native.Mathlib.Omega.{arith}
+use lib.Dec.{eqb, ltb, leb}
+use lib.ListN.{length, getD, take, drop}
+use lib.Seq.{drop-cons}
+use borrow.Author.Tests.{ltb-false, leb-true, eqb-true, eqb-false, not-true}
+use Rattle.rules.specs.Systems.{system, stands}
+use Rattle.rules.specs.Packet.{Packet}
+use Rattle.rules.specs.Numbers.{Outcome, listed, refused, also}
+use Rattle.rules.proofs.Basics.{never, both}
+use Rattle.mxf.specs.Element.{key, wrapping}
+use Rattle.mxf.specs.Judging.{twoIn, threeIn, fourIn, field, inFrame, isCoding, isCount, sizeIn, frontThen, arrayThen, packetIn}
+use Rattle.mxf.specs.Judging.{structures, keyThen, headThen, judged}
+
+-- ---- a field
+
+pub record Right (s : List ℕ) (i size : ℕ) (right : Bool) (o : Outcome) (ps : List Packet) : Type 0 where
+  pub there : i + size ≤ length s
+  pub holds : right ≡ true
+  pub later : o ≡ listed ps
+
+pub field-listed : (at : ℕ) (s : List ℕ) (i size : ℕ) (right : Bool) (o : Outcome) (ps : List Packet)
+    → field at s i size right o ≡ listed ps → Right s i size right o ps
+field-listed at s i size right o ps e = go (ltb (length s) (i + size)) right refl e
+  where
+    go : (a r : Bool) → ltb (length s) (i + size) ≡ a → cond a (refused 19 (at + length s)) (cond r o (refused 19 (at + i))) ≡ listed ps
+        → Right s i size r o ps
+    go true r h e = never (cc)
+    go false true h e = record { there = ltb-false (length s) (i + size) h; holds = refl; later = e }
+    go false false h e = never (cc)
+
+-- ---- a structure
+
+pub record Front (sys : ℕ) (s : List ℕ) (o : Outcome) (ps : List Packet) : Type 0 where
+  pub lined : twoIn s 0 ≡ 0 → ⊥
+  pub stands : stands (system sys) (twoIn s 0) ≡ true
+  pub wrapped : getD s 2 0 ≡ wrapping sys
+  pub coded : isCoding (getD s 3 0) ≡ true
+  pub later : o ≡ listed ps
+
+pub front-listed : (sys at : ℕ) (s : List ℕ) (o : Outcome) (ps : List Packet) → frontThen sys at s o ≡ listed ps → Front sys s o ps
+unfolding frontThen
+front-listed sys at s o ps e =
+    let a = field-listed at s 0 2 _ _ ps e in
+    let b = field-listed at s 2 1 _ _ ps (a .later) in
+    let c = field-listed at s 3 1 _ _ ps (b .later) in
+    let l = both _ _ (a .holds) in
+    record {
+      lined = eqb-false (twoIn s 0) 0 (not-true (eqb (twoIn s 0) 0) (l .0));
+      stands = l .1;
+      wrapped = eqb-true (getD s 2 0) (wrapping sys) (b .holds);
+      coded = c .holds;
+      later = c .later;
+    }
+
+pub record Array (s : List ℕ) (o : Outcome) (ps : List Packet) : Type 0 where
+  pub least : 3 ≤ twoIn s 4
+  pub most : twoIn s 4 ≤ 258
+  pub enough : twoIn s 4 ≤ fourIn s 6
+  pub inside : sizeIn s ≤ length s
+  pub single : fourIn s 10 ≡ 1
+  pub dc : getD s 16 0 + 3 ≡ twoIn s 4
+  pub later : o ≡ listed ps
+
+pub array-listed : (at : ℕ) (s : List ℕ) (o : Outcome) (ps : List Packet) → arrayThen at s o ≡ listed ps → Array s o ps
+unfolding arrayThen
+array-listed at s o ps e =
+    let a = field-listed at s 4 2 _ _ ps e in
+    let b = field-listed at s 6 4 _ _ ps (a .later) in
+    let c = field-listed at s 10 4 _ _ ps (b .later) in
+    let d = field-listed at s 16 1 _ _ ps (c .later) in
+    let m = both _ _ (a .holds) in
+    let n = both _ _ (b .holds) in
+    record {
+      least = leb-true 3 (twoIn s 4) (m .0);
+      most = leb-true (twoIn s 4) 258 (m .1);
+      enough = leb-true (twoIn s 4) (fourIn s 6) (n .0);
+      inside = leb-true (sizeIn s) (length s) (n .1);
+      single = eqb-true (fourIn s 10) 1 (c .holds);
+      dc = eqb-true (getD s 16 0 + 3) (twoIn s 4) (d .holds);
+      later = d .later;
+    }
+
+-- ---- the structures
+
+pub record Structure (sys : ℕ) (s : List ℕ) : Type 0 where
+  pub lined : twoIn s 0 ≡ 0 → ⊥
+  pub stands : stands (system sys) (twoIn s 0) ≡ true
+  pub wrapped : getD s 2 0 ≡ wrapping sys
+  pub coded : isCoding (getD s 3 0) ≡ true
+  pub least : 3 ≤ twoIn s 4
+  pub most : twoIn s 4 ≤ 258
+  pub enough : twoIn s 4 ≤ fourIn s 6
+  pub inside : sizeIn s ≤ length s
+  pub single : fourIn s 10 ≡ 1
+  pub dc : getD s 16 0 + 3 ≡ twoIn s 4
+
+pub record More (sys : ℕ) (fi : Bool) (n at : ℕ) (s : List ℕ) (ps : List Packet) : Type 0 where
+  pub structure : Structure sys s
+  pub rest : List Packet
+  pub front : ps ≡ packetIn sys fi s ∷ rest
+  pub later : structures sys fi n (at + sizeIn s) (drop (sizeIn s) s) ≡ listed rest
+
+pub structures-listed : (sys : ℕ) (fi : Bool) (n at : ℕ) (s : List ℕ) (ps : List Packet) → structures sys fi (suc n) at s ≡ listed ps
+    → More sys fi n at s ps
+structures-listed sys fi n at s ps e =
+    let a = front-listed sys at s _ ps e in
+    let b = array-listed at s _ ps (a .later) in
+    go (structures sys fi n (at + sizeIn s) (drop (sizeIn s) s)) refl (b .later)
+    (record {
+      lined = a .lined;
+      stands = a .stands;
+      wrapped = a .wrapped;
+      coded = a .coded;
+      least = b .least;
+      most = b .most;
+      enough = b .enough;
+      inside = b .inside;
+      single = b .single;
+      dc = b .dc;
+    })
+  where
+    go : (o : Outcome) → structures sys fi n (at + sizeIn s) (drop (sizeIn s) s) ≡ o → also (packetIn sys fi s) o ≡ listed ps → Structure sys s
+        → More sys fi n at s ps
+    go (listed qs) q e t = record { structure = t; rest = qs; front = (let z : packetIn sys fi s ∷ qs ≡ ps = cc in sym z); later = q }
+    go (refused m i) q e t = never (cc)
+
+pub structures-none : (sys : ℕ) (fi : Bool) (at : ℕ) (s : List ℕ) (ps : List Packet) → structures sys fi zero at s ≡ listed ps
+    → (s ≡ []) × (ps ≡ [])
+structures-none sys fi at [] ps e = (refl, cc)
+structures-none sys fi at (b ∷ s) ps e = never (cc)
+
+pub structures-count : (sys : ℕ) (fi : Bool) (n at : ℕ) (s : List ℕ) (ps : List Packet) → structures sys fi n at s ≡ listed ps → length ps ≡ n
+structures-count sys fi zero at s ps e = ap length (structures-none sys fi at s ps e .1)
+structures-count sys fi (suc n) at s ps e =
+    let m = structures-listed sys fi n at s ps e in
+    ap length (m .front) ∙ ap suc (structures-count sys fi n (at + sizeIn s) (drop (sizeIn s) s) (m .rest) (m .later))
+
+-- ---- key, length and N
+
+pub record Keyed (i : ℕ) (ks e : List ℕ) (o : Outcome) (ps : List Packet) : Type 0 where
+  pub key : take (length ks) (drop i e) ≡ ks
+  pub later : o ≡ listed ps
+
+pub key-listed : (i : ℕ) (ks e : List ℕ) (o : Outcome) (ps : List Packet) → keyThen i ks e o ≡ listed ps → Keyed i ks e o ps
+key-listed i [] e o ps h = record { key = refl; later = h }
+key-listed i (k ∷ ks) e o ps h =
+    let a = field-listed 0 e i 1 _ _ ps h in
+    let b = key-listed (suc i) ks e o ps (a .later) in
+    let l = a .there in
+    let c : drop i e ≡ getD e i 0 ∷ drop (suc i) e = drop-cons e i 0 (omega arith) in
+    record {
+      key = ap (take (length (k ∷ ks))) c ∙ ap₂ (λ (x : ℕ) (r : List ℕ). x ∷ r) (eqb-true (getD e i 0) k (a .holds)) (b .key);
+      later = b .later;
+    }
+
+pub record Head (e : List ℕ) : Type 0 where
+  pub keyed : take 16 e ≡ key
+  pub longForm : getD e 16 0 ≡ 0x83
+  pub measured : 20 + threeIn e 17 ≡ length e
+  pub counted : 22 ≤ length e
+
+pub record Element (sys : ℕ) (fi : Bool) (e : List ℕ) (ps : List Packet) : Type 0 where
+  pub head : Head e
+  pub later : structures sys fi (twoIn e 20) 22 (drop 22 e) ≡ listed ps
+
+pub judged-listed : (sys : ℕ) (fi : Bool) (e : List ℕ) (ps : List Packet) → judged sys fi e ≡ listed ps → Element sys fi e ps
+unfolding judged headThen key
+judged-listed sys fi e ps h =
+    let k = key-listed 0 key e _ ps h in
+    let a = field-listed 0 e 16 1 _ _ ps (k .later) in
+    let b = field-listed 0 e 17 3 _ _ ps (a .later) in
+    let c = field-listed 0 e 20 2 true _ ps (b .later) in
+    record {
+      head = record {
+        keyed = k .key;
+        longForm = eqb-true (getD e 16 0) 0x83 (a .holds);
+        measured = eqb-true (20 + threeIn e 17) (length e) (b .holds);
+        counted = c .there;
+      };
+      later = c .later;
+    }
+
+-- ---- a refusal is 19
+
+record Nineteen (o : Outcome) : Type 0 where
+  is : (n i : ℕ) → o ≡ refused n i → n ≡ 19
+
+refused-number : (at : ℕ) → Nineteen (refused 19 at)
+refused-number at = record { is = λ n i e. cc }
+
+listed-number : (ps : List Packet) → Nineteen (listed ps)
+listed-number ps = record { is = λ n i e. never (cc) }
+
+field-number : (at : ℕ) (s : List ℕ) (i size : ℕ) (right : Bool) (o : Outcome) → Nineteen o → Nineteen (field at s i size right o)
+field-number at s i size right o h = go (ltb (length s) (i + size)) right
+  where
+    go : (a r : Bool) → Nineteen (cond a (refused 19 (at + length s)) (cond r o (refused 19 (at + i))))
+    go true r = refused-number (at + length s)
+    go false true = h
+    go false false = refused-number (at + i)
+
+also-number : (p : Packet) (o : Outcome) → Nineteen o → Nineteen (also p o)
+also-number p (listed ps) h = listed-number (p ∷ ps)
+also-number p (refused n i) h = h
+
+structures-number : (sys : ℕ) (fi : Bool) (n at : ℕ) (s : List ℕ) → Nineteen (structures sys fi n at s)
+unfolding frontThen arrayThen
+structures-number sys fi zero at [] = listed-number []
+structures-number sys fi zero at (b ∷ s) = refused-number at
+structures-number sys fi (suc n) at s =
+    field-number at s 0 2 (inFrame (system sys) (twoIn s 0)) _
+    (field-number at s 2 1 (eqb (getD s 2 0) (wrapping sys)) _
+    (field-number at s 3 1 (isCoding (getD s 3 0)) _
+    (field-number at s 4 2 (isCount (twoIn s 4)) _
+    (field-number at s 6 4 (leb (twoIn s 4) (fourIn s 6) && leb (sizeIn s) (length s)) _
+    (field-number at s 10 4 (eqb (fourIn s 10) 1) _
+    (field-number at s 16 1 (eqb (getD s 16 0 + 3) (twoIn s 4)) _
+    (also-number (packetIn sys fi s) _ (structures-number sys fi n (at + sizeIn s) (drop (sizeIn s) s)))))))))
+
+key-number : (i : ℕ) (ks e : List ℕ) (o : Outcome) → Nineteen o → Nineteen (keyThen i ks e o)
+key-number i [] e o h = h
+key-number i (k ∷ ks) e o h = field-number 0 e i 1 (eqb (getD e i 0) k) _ (key-number (suc i) ks e o h)
+
+pub judged-number : (sys : ℕ) (fi : Bool) (e : List ℕ) (n i : ℕ) → judged sys fi e ≡ refused n i → n ≡ 19
+unfolding judged headThen
+judged-number sys fi e =
+    key-number 0 key e _
+    (field-number 0 e 16 1 (eqb (getD e 16 0) 0x83) _
+    (field-number 0 e 17 3 (eqb (20 + threeIn e 17) (length e)) _
+    (field-number 0 e 20 2 true _ (structures-number sys fi (twoIn e 20) 22 (drop 22 e)))))
+    .is

@@ -1,0 +1,18 @@
+-- The laws of this crate.
+--
+--   JudgingLaws   each way through the code of `judging`
+--   Inversion     from an element without fault back to the facts of each field
+--   Elements      an element is read as it was written, and what is read was written so
+--   Figures       the definitions give the elements that were written out by hand
+--   Accepting     the contract of reading
+--   Exporting     the contract of writing, and the way back
+--   WritingLaws   each way through the code of `writing`
+--   ReadingLaws   each way through the code of `reading`
+pub mod JudgingLaws
+pub mod Inversion
+pub mod Elements
+pub mod Figures
+pub mod Accepting
+pub mod Exporting
+pub mod WritingLaws
+pub mod ReadingLaws

@@ -1,0 +1,503 @@
+-- Reading an element that has been found right: its structures one after the other, and what is written of the sheet so far.
+--
+-- In order: the structures that are left; the words of a packet; locations; the words
+-- of packets; the sections; the answer.
+-- Assumes nothing.
+use Prim.Native.Nat.{ℕ, suc, _+_, _-_, _*_, _≤_, _<_}
+use mathlib.Core.Path.{_≡_, refl, sym, ap, ap₂, _∙_, subst}
+use mathlib.Core.Bool.{Bool, true, false, cond}
+use mathlib.Core.Logic.{_⊎_, inl, inr}
+use mathlib.Core.List.{List, [], _∷_, _++_, map}
+use native.Mathlib.Nat.{add-zero}
+use native.Mathlib.Omega.{arith}
+use native.Mathlib.Numerals.{add-three}
+use lib.Dec.{eqb, leb}
+use lib.ListN.{length, getD, take, drop, set, length-append, length-drop, length-set}
+use lib.Seq.{length-take-le, getD-drop, drop-cons, drop-drop, take-all}
+use borrow.Author.Tests.{eq-eqb, le-leb, lt-leb}
+use Rattle.rules.specs.Base.{Bytes}
+use Rattle.rules.specs.Systems.{known, system}
+use Rattle.rules.specs.Packet.{Packet, body, word, check, coded, checkOf, words}
+use Rattle.rules.specs.Sheet.{limit, locations, allWords, sheetOf}
+use Rattle.rules.specs.Numbers.{Outcome, listed, refused, unless, andThen}
+use Rattle.rules.specs.Reading.{bufferOf}
+use Rattle.rules.proofs.Basics.{second-false}
+use Rattle.rules.proofs.Sheets.{sheet-length}
+use Rattle.rules.proofs.Words.{packet-words, words-room}
+use Rattle.frame.specs.Systems.{figuresOf}
+use Rattle.frame.specs.declared.Figures.{Figures}
+use Rattle.frame.proofs.Laws.{unknown-figures, known-figures}
+use Rattle.sheet.specs.Write.{listIn, framed, wordsAfter}
+use Rattle.sheet.proofs.Filling.{two-more, part-long, part-more, all-written, threeOf, backOf}
+use Rattle.sheet.proofs.Filling.{sheet-before, sheet-lent, sheet-long, sheet-filled}
+use Rattle.mxf.specs.Served.{fiRead}
+use Rattle.mxf.specs.Judging.{twoIn, fourIn, sizeIn, packetIn, structures, judged}
+use Rattle.mxf.specs.Reading.{hasRoom, lastTests, reading, readOf, read, sheetAfter}
+use Rattle.mxf.specs.Demands.{Reads}
+use Rattle.mxf.specs.Parts.{packetsOfStructures, Judged, Sized, Answers}
+use Rattle.mxf.specs.declared.ElementRead.{ElementRead}
+use Rattle.mxf.proofs.JudgingLaws.{two-drop, four-drop}
+use Rattle.mxf.proofs.Accepting.{reads}
+use Rattle.mxf.proofs.Inversion.{structures-listed, structures-none, structures-count, judged-listed, judged-number}
+
+-- ---- the structures that are left
+
+module _ (sys : ℕ) (fi : Bool) (n : ℕ) (s : List ℕ) where
+  -- from place `at` on, where k have been gone through
+  abbrev pub leftOf : ℕ → ℕ → Outcome
+  leftOf k at = structures sys fi (n - k) (22 + at) (drop at s)
+
+  abbrev pub restOf : ℕ → ℕ → List Packet
+  restOf k at = listIn (leftOf k at)
+
+  abbrev pub Left : ℕ → ℕ → Type 0
+  Left k at = leftOf k at ≡ listed (restOf k at)
+
+  none-gone : n ≡ n - 0
+  none-gone = omega arith
+
+  pub rest-all : restOf 0 0 ≡ packetsOfStructures sys fi n s
+  rest-all = ap (λ (m : ℕ). listIn (structures sys fi m 22 s)) (sym none-gone)
+
+  pub left-all : Judged sys fi n s → Left 0 0
+  left-all j = subst (λ (m : ℕ). structures sys fi m 22 s ≡ listed (listIn (structures sys fi m 22 s))) none-gone j
+
+  pub left-none : (k at : ℕ) → Left k at → n ≤ k → restOf k at ≡ []
+  left-none k at l h =
+      let z : n - k ≡ 0 = omega arith in
+      let e : structures sys fi 0 (22 + at) (drop at s) ≡ listed (restOf k at) =
+      ap (λ (m : ℕ). structures sys fi m (22 + at) (drop at s)) (sym z) ∙ l in
+      structures-none sys fi (22 + at) (drop at s) (restOf k at) e .1
+
+  -- one of them: what its fields say, by their places in s
+  pub record Turn (k at : ℕ) : Type 0 where
+    pub enough : twoIn s (at + 4) ≤ fourIn s (at + 6)
+    pub inside : at + 14 + fourIn s (at + 6) ≤ length s
+    pub dc : getD (drop at s) 16 0 + 3 ≡ twoIn s (at + 4)
+    pub front : restOf k at ≡ packetIn sys fi (drop at s) ∷ restOf (k + 1) (at + 14 + fourIn s (at + 6))
+    pub later : Left (k + 1) (at + 14 + fourIn s (at + 6))
+
+  pub turn : (k at : ℕ) → Left k at → k < n → Turn k at
+  turn k at l h =
+      let t : List ℕ = drop at s in
+      let one : n - k ≡ suc (n - (k + 1)) = omega arith in
+      let e : structures sys fi (suc (n - (k + 1))) (22 + at) t ≡ listed (restOf k at) =
+      ap (λ (m : ℕ). structures sys fi m (22 + at) t) (sym one) ∙ l in
+      let m = structures-listed sys fi (n - (k + 1)) (22 + at) t (restOf k at) e in
+      let st = m .structure in
+      let long = length-drop at s in
+      let a = two-drop at 4 s in
+      let b = four-drop at 6 s in
+      let p : 22 + (at + 14 + fourIn s (at + 6)) ≡ 22 + at + sizeIn t = omega arith in
+      let q : at + 14 + fourIn s (at + 6) ≡ at + sizeIn t = omega arith in
+      let f : leftOf (k + 1) (at + 14 + fourIn s (at + 6)) ≡ listed (m .rest) =
+      ap₂ (λ (i : ℕ) (r : List ℕ). structures sys fi (n - (k + 1)) i r) p (ap (λ (i : ℕ). drop i s) q ∙ sym (drop-drop (sizeIn t) at s))
+      ∙ m .later in
+      let g : restOf (k + 1) (at + 14 + fourIn s (at + 6)) ≡ m .rest = ap listIn f in
+      record {
+        enough = let x = st .enough in omega arith;
+        inside = let x = st .inside in omega arith;
+        dc = st .dc ∙ a;
+        front = m .front ∙ ap (λ (r : List Packet). packetIn sys fi t ∷ r) (sym g);
+        later = f ∙ ap listed (sym g);
+      }
+
+-- ---- the words of a packet
+
+-- "samples run from DID to the last user word"
+pub packet-framed : (sys : ℕ) (fi : Bool) (t : List ℕ) (n : ℕ) → getD t 16 0 + 3 ≡ n → 14 + n ≤ length t
+    → words (packetIn sys fi t) ≡ framed (map word (take n (drop 14 t)))
+unfolding words coded checkOf framed
+packet-framed sys fi t n e h =
+    let d : ℕ = getD t 16 0 in
+    let l : length (take d (drop 17 t)) ≡ d = length-take-le d (drop 17 t) (let x = length-drop 17 t in omega arith) in
+    let a : drop 14 t ≡ getD t 14 0 ∷ getD t 15 0 ∷ d ∷ drop 17 t =
+    drop-cons t 14 0 (omega arith)
+    ∙ ap (λ (r : List ℕ). getD t 14 0 ∷ r) (drop-cons t 15 0 (omega arith))
+    ∙ ap (λ (r : List ℕ). getD t 14 0 ∷ getD t 15 0 ∷ r) (drop-cons t 16 0 (omega arith)) in
+    let b : take n (drop 14 t) ≡ body (packetIn sys fi t) =
+    ap₂ take (sym e ∙ add-three d) a ∙ ap (λ (m : ℕ). getD t 14 0 ∷ getD t 15 0 ∷ m ∷ take d (drop 17 t)) (sym l) in
+    ap (λ (r : List ℕ). 0x000 ∷ 0x3FF ∷ 0x3FF ∷ (map word r ++ check (map word r) ∷ [])) (sym b)
+
+-- the buffer is as long as the words are
+words-after : (s buffer : List ℕ) → length buffer ≡ length s + 4 → wordsAfter s buffer ≡ framed (map word s)
+unfolding wordsAfter
+words-after s buffer h = rw (eq-eqb (length buffer) (length s + 4) h)
+
+-- ---- locations
+
+-- the locations of the packets before `at` are written
+pub record Locating (sys : ℕ) (fi : Bool) (n : ℕ) (s out : List ℕ) (k at : ℕ) : Type 0 where
+  pub left : Left sys fi n s k at
+  pub long : length out ≡ 2 * n
+  pub written : take (2 * k) out ++ locations (restOf sys fi n s k at) ≡ locations (packetsOfStructures sys fi n s)
+
+module _ (sys : ℕ) (fi : Bool) (n : ℕ) (s out : List ℕ) where
+  pub locating-none : Judged sys fi n s → length out ≡ 2 * n → Locating sys fi n s out 0 0
+  locating-none j l = record { left = left-all sys fi n s j; long = l; written = ap locations (rest-all sys fi n s) }
+
+  pub locating-all : (k at : ℕ) → Locating sys fi n s out k at → n ≤ k → out ≡ locations (packetsOfStructures sys fi n s)
+  locating-all k at was h =
+      let none = left-none sys fi n s k at (was .left) h in
+      let l = was .long in
+      all-written out (locations (restOf sys fi n s k at)) (locations (packetsOfStructures sys fi n s)) (2 * k) (omega arith) (ap locations none)
+      (was .written)
+
+  -- a turn: line and flags
+  pub locating-more : (k at first line flags count : ℕ) → Locating sys fi n s out k at → k < n → first ≡ fiRead sys fi → line ≡ twoIn s at
+      → flags ≡ first + 2 * cond (eqb (getD s (at + 3) 0) 4) 1 0 → count ≡ fourIn s (at + 6)
+      → Locating sys fi n s (set (set out (2 * k) line) (2 * k + 1) flags) (k + 1) (at + (14 + count))
+  locating-more k at first line flags count was h q e f g =
+      let t = turn sys fi n s k at (was .left) h in
+      let l = was .long in
+      let next : at + (14 + count) ≡ at + 14 + fourIn s (at + 6) = omega arith in
+      let qs : List Packet = restOf sys fi n s (k + 1) (at + (14 + count)) in
+      let again : restOf sys fi n s (k + 1) (at + 14 + fourIn s (at + 6)) ≡ qs = ap (restOf sys fi n s (k + 1)) (sym next) in
+      let a : packetIn sys fi (drop at s) .line ≡ line = two-drop at 0 s ∙ ap (twoIn s) (add-zero at) ∙ sym e in
+      let b : packetIn sys fi (drop at s) .flags ≡ flags =
+      ap₂ (λ (v x : ℕ). v + 2 * cond (eqb x 4) 1 0) (sym q) (getD-drop at s 3 0) ∙ sym f in
+      let m : locations (restOf sys fi n s k at) ≡ line ∷ flags ∷ locations qs =
+      ap locations (t .front ∙ ap (λ (r : List Packet). packetIn sys fi (drop at s) ∷ r) again)
+      ∙ ap₂ (λ (x v : ℕ). x ∷ v ∷ locations qs) a b in
+      let i : 2 * (k + 1) ≡ 2 * k + 2 = omega arith in
+      record {
+        left = subst (Left sys fi n s (k + 1)) (sym next) (t .later);
+        long = simp length-set l;
+        written =
+            ap (λ (j : ℕ). take j (set (set out (2 * k) line) (2 * k + 1) flags) ++ locations qs) i
+            ∙ two-more out (2 * k) line flags (locations qs) (omega arith)
+            ∙ ap (λ (r : List ℕ). take (2 * k) out ++ r) (sym m)
+            ∙ was .written;
+      }
+
+-- ---- the words of packets
+
+-- the words of the packets before `at` are written, o of them
+pub record Wording (sys : ℕ) (fi : Bool) (n : ℕ) (s out : List ℕ) (k at o : ℕ) : Type 0 where
+  pub left : Left sys fi n s k at
+  pub room : o + length (allWords (restOf sys fi n s k at)) ≡ length out
+  pub written : take o out ++ allWords (restOf sys fi n s k at) ≡ allWords (packetsOfStructures sys fi n s)
+
+module _ (sys : ℕ) (fi : Bool) (n : ℕ) (s out : List ℕ) where
+  pub wording-none : Judged sys fi n s → length out ≡ length (allWords (packetsOfStructures sys fi n s)) → Wording sys fi n s out 0 0 0
+  wording-none j l =
+      let e : allWords (restOf sys fi n s 0 0) ≡ allWords (packetsOfStructures sys fi n s) = ap allWords (rest-all sys fi n s) in
+      let z : length (allWords (restOf sys fi n s 0 0)) ≡ length out = ap length e ∙ sym l in
+      record { left = left-all sys fi n s j; room = omega arith; written = e }
+
+  pub wording-all : (k at o : ℕ) → Wording sys fi n s out k at o → n ≤ k → out ≡ allWords (packetsOfStructures sys fi n s)
+  wording-all k at o was h =
+      let none = left-none sys fi n s k at (was .left) h in
+      let z : length (allWords (restOf sys fi n s k at)) ≡ 0 = ap (λ (r : List Packet). length (allWords r)) none in
+      let l = was .room in
+      all-written out (allWords (restOf sys fi n s k at)) (allWords (packetsOfStructures sys fi n s)) o (omega arith) (ap allWords none)
+      (was .written)
+
+  -- a turn
+  module _ (k at o : ℕ) (was : Wording sys fi n s out k at o) (h : k < n) where
+    abbrev count : ℕ
+    count = fourIn s (at + 6)
+
+    abbrev samples : ℕ
+    samples = twoIn s (at + 4)
+
+    abbrev qs : List Packet
+    qs = restOf sys fi n s (k + 1) (at + 14 + count)
+
+    step : Turn sys fi n s k at
+    step = turn sys fi n s k at (was .left) h
+
+    packet-is : words (packetIn sys fi (drop at s)) ≡ framed (map word (take samples (drop (at + 14) s)))
+    packet-is =
+        let a = step .inside in
+        let b = step .enough in
+        packet-framed sys fi (drop at s) samples (step .dc) (let x = length-drop at s in omega arith)
+        ∙ ap (λ (r : List ℕ). framed (map word (take samples r))) (drop-drop 14 at s)
+
+    user-long : length (packetIn sys fi (drop at s) .user) ≡ getD (drop at s) 16 0
+    user-long =
+        let a = step .inside in
+        let b = step .enough in
+        let d = step .dc in
+        length-take-le (getD (drop at s) 16 0) (drop 17 (drop at s))
+        (let x = length-drop at s in let y = length-drop 17 (drop at s) in omega arith)
+
+    packet-long : length (words (packetIn sys fi (drop at s))) ≡ samples + 4
+    packet-long = packet-words (packetIn sys fi (drop at s)) ∙ (let u = user-long in let d = step .dc in omega arith)
+
+    pub wording-room : o + samples + 4 ≤ length out
+    wording-room =
+        let l = was .room in
+        let a : length (allWords (restOf sys fi n s k at)) ≡ length (words (packetIn sys fi (drop at s)) ++ allWords qs) =
+        ap (λ (r : List Packet). length (allWords r)) (step .front) in
+        let b = length-append (words (packetIn sys fi (drop at s))) (allWords qs) in
+        let c = packet-long in
+        omega arith
+
+    module _ (sr cr : ℕ) (es : sr ≡ samples) (ec : cr ≡ count) where
+      abbrev bytes : List ℕ
+      bytes = take (at + 14 + sr - (at + 14)) (drop (at + 14) s)
+
+      abbrev lent : List ℕ
+      lent = take (o + sr + 4 - o) (drop o out)
+
+      same-bytes : bytes ≡ take samples (drop (at + 14) s)
+      same-bytes = let n : at + 14 + sr - (at + 14) ≡ samples = omega arith in ap (λ (m : ℕ). take m (drop (at + 14) s)) n
+
+      bytes-long : length bytes ≡ samples
+      bytes-long =
+          let a = step .inside in
+          let b = step .enough in
+          ap length same-bytes ∙ length-take-le samples (drop (at + 14) s) (let x = length-drop (at + 14) s in omega arith)
+
+      lent-long : length lent ≡ samples + 4
+      lent-long =
+          let r = wording-room in
+          length-take-le (o + sr + 4 - o) (drop o out) (let x = length-drop o out in omega arith) ∙ (omega arith)
+
+      -- what comes back
+      module _ (ys : List ℕ) (q : ys ≡ wordsAfter bytes lent) where
+        abbrev after : List ℕ
+        after = take o out ++ (ys ++ drop (o + sr + 4 - o) (drop o out))
+
+        abbrev later : List Packet
+        later = restOf sys fi n s (k + 1) (at + 14 + cr)
+
+        ys-are : ys ≡ words (packetIn sys fi (drop at s))
+        ys-are =
+            q
+            ∙ words-after bytes lent (lent-long ∙ ap (λ (m : ℕ). m + 4) (sym bytes-long))
+            ∙ ap (λ (b : List ℕ). framed (map word b)) same-bytes
+            ∙ sym packet-is
+
+        ys-long : length ys ≡ o + sr + 4 - o
+        ys-long = ap length ys-are ∙ packet-long ∙ (omega arith)
+
+        pub wording-long : length after ≡ length out
+        wording-long = let r = wording-room in part-long out ys o (o + sr + 4) (omega arith) (omega arith) ys-long
+
+        pub wording-more : Wording sys fi n s after (k + 1) (at + 14 + cr) (o + sr + 4)
+        wording-more =
+            let r = wording-room in
+            let w = was .room in
+            let l = ys-long in
+            let next : at + 14 + count ≡ at + 14 + cr = omega arith in
+            let rest : allWords (restOf sys fi n s k at) ≡ ys ++ allWords later =
+            ap allWords (step .front) ∙ ap₂ (λ (v : List ℕ) (i : ℕ). v ++ allWords (restOf sys fi n s (k + 1) i)) (sym ys-are) next in
+            let both : length (allWords (restOf sys fi n s k at)) ≡ length (ys ++ allWords later) = ap length rest in
+            let sum = length-append ys (allWords later) in
+            record {
+              left = subst (Left sys fi n s (k + 1)) next (step .later);
+              room = sym (wording-long ∙ (omega arith));
+              written =
+                  part-more out ys o (o + sr + 4) (omega arith) (omega arith) l (allWords later)
+                  ∙ ap (λ (v : List ℕ). take o out ++ v) (sym rest)
+                  ∙ was .written;
+            }
+
+-- ---- the sections
+
+module _ (sys : ℕ) (fi : Bool) (packets : ℕ) (s out : List ℕ) (m : Sized sys fi packets s out) where
+  abbrev ps : List Packet
+  ps = packetsOfStructures sys fi packets s
+
+  abbrev mid : ℕ
+  mid = 3 + 2 * packets
+
+  count-is : packets ≡ length ps
+  count-is = sym (structures-count sys fi packets 22 s ps (m .judged))
+
+  pub sections-room : length out ≡ 4 + 2 * packets + length (allWords ps)
+  sections-room =
+      let a = m .room in
+      let b = sheet-length sys ps in
+      let c = words-room ps in
+      let d = count-is in
+      omega arith
+
+  module _ (ls : List ℕ) (hl : ls ≡ locations ps) where
+    abbrev before : List ℕ
+    before = backOf (threeOf out 1 sys packets) ls mid
+
+    -- W, as what is left of `out` says it
+    abbrev w : ℕ
+    w = length before - mid - 1
+
+    abbrev counted : List ℕ
+    counted = set before mid w
+
+    pub before-long : length before ≡ length out
+    before-long = sheet-before sys packets (length (allWords ps)) ps out ls count-is refl sections-room hl
+
+    w-is : w ≡ length (allWords ps)
+    w-is = let a = before-long in let b = sections-room in omega arith
+
+    room-is : length out ≡ 4 + 2 * packets + w
+    room-is = let a = before-long in let b = sections-room in omega arith
+
+    -- what is lent for the words
+    pub words-lent : length (take (length counted - (mid + 1)) (drop (mid + 1) counted)) ≡ length (allWords ps)
+    words-lent = sheet-lent sys packets w ps out ls count-is w-is room-is hl ∙ w-is
+
+    module _ (ws : List ℕ) (hw : ws ≡ allWords ps) where
+      abbrev all : List ℕ
+      all = take (mid + 1) counted ++ (ws ++ drop (length counted - (mid + 1)) (drop (mid + 1) counted))
+
+      pub sections-long : length all ≡ length out
+      sections-long = sheet-long sys packets w ps out ls count-is w-is room-is hl ws hw
+
+      pub sections-written : all ≡ sheetOf sys ps
+      sections-written = sheet-filled sys packets w ps out ls count-is w-is room-is hl ws hw
+
+-- ---- the answer
+
+module _ (sys : ℕ) (fi : Bool) (e sheet : List ℕ) (j : ElementRead) (h : j ≡ readOf sys (judged sys fi e)) where
+  -- 19 is given back as it is
+  pub refused-before : (j .number ≡ 0 → ⊥) → Answers sys sheet (andThen (judged sys fi e) (lastTests sys (length sheet))) j sheet
+  refused-before n = go (judged sys fi e) h
+    where
+      go : (o : Outcome) → j ≡ readOf sys o → Answers sys sheet (andThen o (lastTests sys (length sheet))) j sheet
+      go (listed qs) q = absurd (n (ap (λ (r : ElementRead). r .number) q))
+      go (refused m i) q = record { answer = q; buffer = refl }
+
+  module _ (z : j .number ≡ 0) where
+    abbrev found : List Packet
+    found = listIn (judged sys fi e)
+
+    found-is : judged sys fi e ≡ listed found
+    found-is = go (judged sys fi e) refl
+      where
+        go : (o : Outcome) → judged sys fi e ≡ o → o ≡ listed (listIn o)
+        go (listed qs) q = refl
+        go (refused m i) q =
+            let a : j .number ≡ m = ap (λ (r : ElementRead). r .number) (h ∙ ap (readOf sys) q) in
+            let b = judged-number sys fi e m i q in
+            absurd (omega arith)
+
+    -- key, length and N are there
+    pub head-there : 22 ≤ length e
+    head-there = judged-listed sys fi e found found-is .head .counted
+
+    answer-is : j ≡ readOf sys (listed found)
+    answer-is = h ∙ ap (readOf sys) found-is
+
+    pub packets-are : j .packets ≡ length found
+    packets-are = ap (λ (r : ElementRead). r .packets) answer-is
+
+    pub numbers-are : j .numbers ≡ 4 + 2 * length found + length (allWords found)
+    numbers-are =
+        ap (λ (r : ElementRead). r .numbers) answer-is
+        ∙ (let a = sheet-length sys found in let b = words-room found in omega arith)
+
+    numbers-sheet : length (sheetOf sys found) ≡ j .numbers
+    numbers-sheet = sym (ap (λ (r : ElementRead). r .numbers) answer-is)
+
+    tests-are : andThen (judged sys fi e) (lastTests sys (length sheet)) ≡ lastTests sys (length sheet) found
+    tests-are = ap (λ (o : Outcome). andThen o (lastTests sys (length sheet))) found-is
+
+    given : (o : Outcome) → lastTests sys (length sheet) found ≡ o → (r : ElementRead) (after : List ℕ) → r ≡ readOf sys o
+        → after ≡ bufferOf sys sheet o → Answers sys sheet (andThen (judged sys fi e) (lastTests sys (length sheet))) r after
+    given o q r after a b =
+        let p = sym (tests-are ∙ q) in
+        record { answer = a ∙ ap (readOf sys) p; buffer = b ∙ ap (bufferOf sys sheet) p }
+
+    -- 5
+    pub too-many : 512 < j .packets → (r : ElementRead) → r ≡ readOf 0 (refused 5 512)
+        → Answers sys sheet (andThen (judged sys fi e) (lastTests sys (length sheet))) r sheet
+    unfolding limit
+    too-many m r q =
+        let a = packets-are in
+        given (refused 5 512) (rw (lt-leb (length found) 512 (omega arith))) r sheet q refl
+
+    module _ (few : j .packets ≤ 512) where
+      few-found : leb (length found) limit ≡ true
+      unfolding limit
+      few-found = let a = packets-are in le-leb (length found) 512 (omega arith)
+
+      -- 17
+      pub no-room : (65535 < j .numbers - 4 - 2 * j .packets) ⊎ (length sheet < j .numbers) → (r : ElementRead)
+          → r ≡ readOf 0 (refused 17 0) → Answers sys sheet (andThen (judged sys fi e) (lastTests sys (length sheet))) r sheet
+      no-room m r q = given (refused 17 0) (rw few-found (ap (λ (b : Bool). unless 17 b (listed found)) (full m))) r sheet q refl
+        where
+          full : (65535 < j .numbers - 4 - 2 * j .packets) ⊎ (length sheet < j .numbers) → hasRoom sys (length sheet) found ≡ false
+          full (inl k) =
+              let a = packets-are in
+              let b = numbers-are in
+              rw (lt-leb (length (allWords found)) 65535 (omega arith))
+          full (inr k) =
+              let b = numbers-sheet in
+              second-false (leb (length (allWords found)) 65535) _ (lt-leb (length (sheetOf sys found)) (length sheet) (omega arith))
+
+      module _ (short : j .numbers - 4 - 2 * j .packets ≤ 65535) (long : j .numbers ≤ length sheet) where
+        -- the structures, lent
+        abbrev structs : List ℕ
+        structs = take (length e - 22) (drop 22 e)
+
+        structs-judged : structures sys fi (j .packets) 22 structs ≡ listed found
+        structs-judged =
+            let d = judged-listed sys fi e found found-is .later in
+            let c : j .packets ≡ twoIn e 20 = packets-are ∙ structures-count sys fi (twoIn e 20) 22 (drop 22 e) found d in
+            let l = length-drop 22 e in
+            ap (structures sys fi (j .packets) 22) (take-all (length e - 22) (drop 22 e) (omega arith))
+            ∙ ap (λ (m : ℕ). structures sys fi m 22 (drop 22 e)) c
+            ∙ d
+
+        pub sized : (out : List ℕ) → sys ≤ 3 → length out ≡ j .numbers → Sized sys fi (j .packets) structs out
+        sized out k l =
+            let a = packets-are in
+            let b = numbers-are in
+            let g : packetsOfStructures sys fi (j .packets) structs ≡ found = ap listIn structs-judged in
+            let n : length (allWords found) < 65536 = omega arith in
+            record {
+              known = k;
+              judged = structs-judged ∙ ap listed (sym g);
+              few = few;
+              short = subst (λ (r : List Packet). length (allWords r) < 65536) (sym g) n;
+              room = l ∙ sym (ap (λ (r : List Packet). length (sheetOf sys r)) g ∙ numbers-sheet);
+            }
+
+        pub all-read : (ys : List ℕ) → ys ≡ sheetOf sys (packetsOfStructures sys fi (j .packets) structs)
+            → Answers sys sheet (andThen (judged sys fi e) (lastTests sys (length sheet))) j (ys ++ drop (j .numbers) sheet)
+        all-read ys q =
+            let a = packets-are in
+            let b = numbers-are in
+            let s = numbers-sheet in
+            let g : packetsOfStructures sys fi (j .packets) structs ≡ found = ap listIn structs-judged in
+            let room : hasRoom sys (length sheet) found ≡ true =
+            rw (le-leb (length (allWords found)) 65535 (omega arith), le-leb (length (sheetOf sys found)) (length sheet) (omega arith)) in
+            given (listed found) (rw few-found (ap (λ (b : Bool). unless 17 b (listed found)) room)) j (ys ++ drop (j .numbers) sheet) answer-is
+            (ap₂ (λ (x : List ℕ) (m : ℕ). x ++ drop m sheet) (q ∙ ap (sheetOf sys) g) (sym s))
+
+-- ---- the first test, and the answer as the definitions have it
+
+-- the figures that are found
+module _ (sys : ℕ) (x : Figures) (found : x ≡ figuresOf sys) where
+  sequences-is : x .sequences ≡ system sys .sequences
+  unfolding figuresOf
+  sequences-is = ap (λ (z : Figures). z .sequences) found
+
+  pub last-is : x .«last_line» .0 ≡ system sys .last
+  unfolding figuresOf
+  last-is = ap (λ (z : Figures). z .«last_line» .0) found
+
+  pub is-unknown : x .sequences ≡ 0 → known sys ≡ false
+  is-unknown z = unknown-figures sys (sym sequences-is ∙ z)
+
+  pub is-known : (x .sequences ≡ 0 → ⊥) → known sys ≡ true
+  is-known z = known-figures sys (λ e. z (sequences-is ∙ e))
+
+module _ (sys : ℕ) (fi : Bool) (e sheet : List ℕ) (r : ElementRead) (after : List ℕ) where
+  -- the contract, over an element of bytes
+  pub answered : Bytes e → Answers sys sheet (reading sys fi e (length sheet)) r after → Reads sys fi e sheet r after
+  unfolding read sheetAfter
+  answered b a = reads sys fi e sheet r after b (a .answer) (a .buffer)
+
+  -- 3
+  pub unknown-system : known sys ≡ false → r ≡ readOf 0 (refused 3 0) → after ≡ sheet → Answers sys sheet (reading sys fi e (length sheet)) r after
+  unfolding reading
+  unknown-system k q b = rw k (record { answer = q; buffer = b })
+
+  pub known-system : known sys ≡ true → Answers sys sheet (andThen (judged sys fi e) (lastTests sys (length sheet))) r after
+      → Answers sys sheet (reading sys fi e (length sheet)) r after
+  unfolding reading
+  known-system k a = rw k a

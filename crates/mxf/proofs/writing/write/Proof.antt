@@ -1,0 +1,47 @@
+-- `mxf::writing::write` meets its contract: the lister's tests, and then the list.
+-- Assumes nothing.
+use borrow.Author.Needs.{needs}
+use Rattle.rules.proofs.Sheets.{Sixteen}
+use Rattle.mxf.proofs.WritingLaws.{no-sheet, sheet-of, the-list}
+use Rattle.mxf.proofs.Exporting.{writes}
+use Rattle.mxf.proofs.writing.write.Statement.{statement}
+use Rattle.mxf.proofs.writing.write.Tie as tie
+
+-- the sheet is lent as sixteen-bit numbers
+sixteen : (c : tie.After-shared-slice-known) → Sixteen (c .before .args .sheet .now)
+sixteen c i = c .shared-slice-known .given i .fits
+
+test-requires : tie.Need-test-requires
+test-requires c κs = search needs
+
+refusal-requires : tie.Need-refusal-requires
+refusal-requires c κs = search needs
+
+returns : tie.Need-returns
+returns c =
+    let t = c .before .before .before in
+    let a = t .before .before .before .args in
+    let e = no-sheet (a .fi) _ (a .element .now) _ (t .test .ensures) _ (c .before .if1 .taken) (c .refusal .ensures) in
+    writes (a .fi) (a .sheet .now) (a .element .now) _ _ (sixteen (t .before .before)) (e .0) (e .1)
+
+write-list-requires : tie.Need-write-list-requires
+write-list-requires c κs =
+    let t = c .before .before .before in
+    let a = t .before .before .before .args in
+    sheet-of (a .fi) _ (a .element .now) _ (t .test .ensures) (c .before .if1 .left)
+
+same-length : tie.Need-same-length
+same-length c = search needs
+
+returns-2 : tie.Need-returns-2
+returns-2 c =
+    let e = c .before .before .before .before in
+    let t = e .before .before in
+    let a = t .before .before .before .args in
+    let w = the-list (a .fi) _ (a .element .now) _ (t .test .ensures) (e .if1 .left) _ _ (c .before .before .write-list .ensures) in
+    writes (a .fi) (a .sheet .now) (a .element .now) _ _ (sixteen (t .before .before)) (w .0) (w .1)
+
+pub write-spec : {M : Type 1} → statement M
+write-spec =
+    tie.close
+    (tie.spec test-requires refusal-requires returns write-list-requires same-length returns-2)

@@ -1,0 +1,41 @@
+-- The tests of an element, and what reading gives back: "on reading 3, 19 .., 5, 17 (W over 65,535 too); in these orders, target
+-- unchanged".
+--
+-- In order: the tests; the answer.
+-- Assumes nothing.
+use Prim.Native.Nat.{ℕ}
+use mathlib.Core.Bool.{Bool, cond, _&&_}
+use mathlib.Core.List.{List}
+use lib.Dec.{leb}
+use lib.ListN.{length}
+use Rattle.rules.specs.Systems.{known}
+use Rattle.rules.specs.Packet.{Packet}
+use Rattle.rules.specs.Sheet.{limit, allWords, sheetOf}
+use Rattle.rules.specs.Numbers.{Outcome, listed, refused, unless, andThen}
+use Rattle.rules.specs.Reading.{bufferOf}
+use Rattle.mxf.specs.Judging.{judged}
+use Rattle.mxf.specs.declared.ElementRead.{ElementRead}
+
+-- 17: the sheet is longer than its buffer, or its W is no 16-bit number
+abbrev pub hasRoom : ℕ → ℕ → List Packet → Bool
+hasRoom sys room ps = leb (length (allWords ps)) 65535 && leb (length (sheetOf sys ps)) room
+
+-- 5 at place 512, then 17
+abbrev pub lastTests : ℕ → ℕ → List Packet → Outcome
+lastTests sys room ps = cond (leb (length ps) limit) (unless 17 (hasRoom sys room ps) (listed ps)) (refused 5 limit)
+
+-- `room` is how many numbers the sheet buffer holds
+unfoldable pub reading : ℕ → Bool → List ℕ → ℕ → Outcome
+reading sys fi e room = unless 3 (known sys) (andThen (judged sys fi e) (lastTests sys room))
+
+-- number, place, packets, sheet numbers; on refusal the later figures are 0
+abbrev pub readOf : ℕ → Outcome → ElementRead
+readOf sys (listed ps) = record { number = 0; place = 0; packets = length ps; numbers = length (sheetOf sys ps) }
+readOf sys (refused n i) = record { number = n; place = i; packets = 0; numbers = 0 }
+
+-- what reading gives back, and the sheet buffer afterwards
+unfoldable pub read : ℕ → Bool → List ℕ → List ℕ → ElementRead
+read sys fi e buffer = readOf sys (reading sys fi e (length buffer))
+
+unfoldable pub sheetAfter : ℕ → Bool → List ℕ → List ℕ → List ℕ
+sheetAfter sys fi e buffer = bufferOf sys buffer (reading sys fi e (length buffer))

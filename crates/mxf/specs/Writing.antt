@@ -1,0 +1,50 @@
+-- The tests of an export, and what writing gives back: "on export the lister's, 18, with the packet, for one served without a line, 17".
+--
+-- In order: 18; the tests; the answer.
+-- Assumes nothing.
+use Prim.Native.Nat.{ℕ, suc}
+use mathlib.Core.Bool.{Bool, cond, _&&_}
+use mathlib.Core.List.{List, [], _∷_, _++_}
+use lib.Dec.{eqb, leb}
+use lib.ListN.{length, drop}
+use Rattle.rules.specs.Packet.{Packet}
+use Rattle.rules.specs.Sheet.{systemIn}
+use Rattle.rules.specs.Numbers.{Outcome, listed, refused, unless, andThen}
+use Rattle.rules.specs.Laying.{sheetTests}
+use Rattle.mxf.specs.Element.{elementOf}
+use Rattle.mxf.specs.Served.{serves, served}
+use Rattle.mxf.specs.declared.ElementWritten.{ElementWritten}
+
+-- 18, "for one served without a line". The packet is named by its number in the sheet, the first of them by i
+abbrev pub lined : ℕ → Bool → ℕ → List Packet → Outcome → Outcome
+lined sys fi i [] o = o
+lined sys fi i (p ∷ ps) o = cond (serves sys fi (p .flags) && eqb (p .line) 0) (refused 18 i) (lined sys fi (suc i) ps o)
+
+-- the packets that are served, each with a line
+abbrev pub export : ℕ → Bool → List Packet → Outcome
+export sys fi ps = lined sys fi 0 ps (listed (served sys fi ps))
+
+-- 17, the element is longer than its buffer
+abbrev pub withRoom : ℕ → ℕ → Outcome → Outcome
+withRoom sys room o = andThen o (λ (ps : List Packet). unless 17 (leb (length (elementOf sys ps)) room) (listed ps))
+
+-- "the lister's, 18, .. 17 .. in these orders". `room` is how many bytes the element buffer holds
+unfoldable pub writing : Bool → List ℕ → ℕ → Outcome
+writing fi s room = withRoom (systemIn s) room (andThen (sheetTests s) (export (systemIn s) fi))
+
+-- number, place, packets served, element bytes; on refusal the later figures are 0
+abbrev pub writtenOf : ℕ → Outcome → ElementWritten
+writtenOf sys (listed ps) = record { number = 0; place = 0; packets = length ps; bytes = length (elementOf sys ps) }
+writtenOf sys (refused n i) = record { number = n; place = i; packets = 0; bytes = 0 }
+
+-- "target unchanged" on a refusal; past the element it is unchanged on success
+abbrev pub elementIn : ℕ → List ℕ → Outcome → List ℕ
+elementIn sys buffer (listed ps) = elementOf sys ps ++ drop (length (elementOf sys ps)) buffer
+elementIn sys buffer (refused n i) = buffer
+
+-- what writing gives back, and the element buffer afterwards
+unfoldable pub write : Bool → List ℕ → List ℕ → ElementWritten
+write fi s buffer = writtenOf (systemIn s) (writing fi s (length buffer))
+
+unfoldable pub elementAfter : Bool → List ℕ → List ℕ → List ℕ
+elementAfter fi s buffer = elementIn (systemIn s) buffer (writing fi s (length buffer))
