@@ -1,6 +1,6 @@
 /*
  * Flettishum: the ancillary packets of a video frame, laid into the VAUX blocks of a 100 Mb/s DV frame (SMPTE 375M) and read out of
- * them again. Link with libvanc.a.
+ * them again, or written as an ANC element of an MXF file (SMPTE ST 436-1) and read from it. Link with libvanc.a.
  *
  * Every call answers, whatever the numbers and bytes that it is given. `number` 0 is success; any other number is a refusal, and `place`
  * says where:
@@ -9,7 +9,7 @@
  *    2  the sheet's counts do not agree with its length                          0
  *    3  system not 1 (1080/60i), 2 (1080/50i) or 3 (720/60p)                     0
  *    4  the area's length is not the system's                                    0
- *    5  more than 512 packets                                                    0 on laying, 512 on reading
+ *    5  more than 512 packets                                                    0 for a sheet, 512 on reading
  *    6  line or flags out of range                                               the location
  *    7  fewer than 7 words left, or no 000h 3FFh 3FFh                            the packet
  *    8  a word from DID to the last user word is not its byte with parity        the packet
@@ -21,7 +21,10 @@
  *   14  a packet's length or its fill is wrong                                   the packet (walking: the string byte where it starts)
  *   15  a packet's stored checksum byte is wrong                                 the same
  *   16  a packet has a line that is 0 or past the last                           the same
- *   17  the sheet is longer than its buffer                                      0
+ *   17  the sheet is longer than its buffer, or would have over 65,535 words;    0
+ *       the element is longer than its buffer
+ *   18  a packet that the element serves has no line                             the packet
+ *   19  the element is not of its form, or a line in it is 0 or past the last    the element byte: the first at fault
  *
  * Packets and locations count from 0. Where several apply, the tests are made in a fixed order and the first is named.
  *
@@ -32,6 +35,7 @@
 #ifndef VANC_H
 #define VANC_H
 
+#include <stdbool.h>
 #include <stddef.h>
 #include <stdint.h>
 
@@ -46,6 +50,12 @@ extern "C" {
 
 /* Numbers that the sheet of every frame has room in: 512 locations and 8,928 words. */
 #define VANC_SHEET_MAX 9956
+
+/* Bytes that the element of every sheet has room in: 22, and for 512 packets of 65,535 words together 10 more each than words. */
+#define VANC_ELEMENT_MAX 70677
+
+/* Numbers that the sheet of every element has room in: 512 locations and 65,535 words. */
+#define VANC_ELEMENT_SHEET_MAX 66563
 
 /* What laying gives back. On refusal packs and bytes are 0. */
 typedef struct {
@@ -70,6 +80,22 @@ typedef struct {
     uint64_t place;
     uint64_t length;
 } vanc_step;
+
+/* What writing an element gives back. On refusal packets and bytes are 0. */
+typedef struct {
+    uint64_t number;
+    uint64_t place;
+    uint64_t packets; /* packets served */
+    uint64_t bytes;   /* the element's length */
+} vanc_element_written;
+
+/* What reading an element gives back. On refusal packets and numbers are 0. */
+typedef struct {
+    uint64_t number;
+    uint64_t place;
+    uint64_t packets;
+    uint64_t numbers; /* the sheet's length */
+} vanc_element_read;
 
 /*
  * Lays a sheet's packets into an area. The sheet is in the machine's own order of bytes: 1, system; P, then P pairs of line (0 for
@@ -97,6 +123,28 @@ vanc_read_back vanc_read(uint64_t system, const uint8_t *area, size_t area_len, 
  * is the end. The string is only read.
  */
 vanc_step vanc_walk(uint64_t system, const uint8_t *string, size_t string_len, uint64_t place);
+
+/*
+ * Writes a sheet's packets as the ANC element of a frame: key, length (83h and three bytes), the number of packets, and the packets in
+ * the sheet's order, with 8-bit coding, without checksum word and without padding. The sheet is as for laying.
+ *
+ * fi        720/60p: the element is of the frame with this FI, and packets of the other are passed over. 1080: of no effect, all
+ *           packets are served.
+ *
+ * Success: the first `bytes` bytes of `element` are the element, those behind it are as they were. Refusal (2, 3, 5 to 11 for the whole
+ * sheet, then 18, then 17): the buffer is unchanged; 17 cannot come with VANC_ELEMENT_MAX bytes. The sheet is only read.
+ */
+vanc_element_written vanc_mxf_write(const uint16_t *sheet, size_t sheet_len, bool fi, uint8_t *element, size_t element_len);
+
+/*
+ * Reads an element's packets into a sheet. Padding behind a packet's samples may have any length and any values.
+ *
+ * fi        720/60p: the FI that the packets get. 1080: of no effect, they get 0.
+ *
+ * Success: the first `numbers` numbers of `sheet` are the sheet, those behind it are as they were. Refusal (3, 19, 5, 17, in this
+ * order): the buffer is unchanged; with VANC_ELEMENT_SHEET_MAX numbers 17 comes only for over 65,535 words. The element is only read.
+ */
+vanc_element_read vanc_mxf_read(uint64_t system, bool fi, const uint8_t *element, size_t element_len, uint16_t *sheet, size_t sheet_len);
 
 #ifdef __cplusplus
 }

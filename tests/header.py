@@ -9,7 +9,7 @@ The comparison has to be able to fail: it is also made with headers that are wro
 import re
 import sys
 
-C_NUMBERS = {"uint8_t": "u8", "uint16_t": "u16", "uint32_t": "u32", "uint64_t": "u64", "size_t": "usize"}
+C_NUMBERS = {"uint8_t": "u8", "uint16_t": "u16", "uint32_t": "u32", "uint64_t": "u64", "size_t": "usize", "bool": "bool"}
 
 
 def without_comments(text):
@@ -99,6 +99,9 @@ WRONG = [
     ("const uint16_t *sheet, size_t sheet_len, uint64_t packing", "const uint8_t *sheet, size_t sheet_len, uint64_t packing"),
     ("uint8_t *area, size_t area_len);", "const uint8_t *area, size_t area_len);"),
     ("vanc_step vanc_walk(", "vanc_step vanc_step_at("),
+    ("bool fi, uint8_t *element", "uint8_t fi, uint8_t *element"),
+    ("uint64_t system, bool fi, const uint8_t *element", "bool fi, uint64_t system, const uint8_t *element"),
+    ("} vanc_element_read;", "    uint64_t bytes;\n} vanc_element_read;"),
 ]
 
 

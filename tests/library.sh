@@ -13,7 +13,7 @@ quietly rt staticlib vanc
 archive=target/staticlib/libvanc.a
 
 nm "$archive" >"$work/symbols"
-python3 tests/header.py include/vanc.h "$work/symbols" crates/vanc/src/c.rt crates/rules/src/lib.rt
+python3 tests/header.py include/vanc.h "$work/symbols" crates/vanc/src/c.rt crates/rules/src/lib.rt crates/mxf/src/lib.rt
 
 expected='laid packs 5 bytes 16
 read packing 1 packets 2 numbers 24
@@ -27,6 +27,15 @@ walked='packet at 0 of 9 bytes
 packet at 9 of 7 bytes'
 [ "$said" = "$expected"$'\n'"$walked"$'\n'"$last" ] || { echo "examples/frame.c printed:"; echo "$said"; exit 1; }
 echo "examples/frame.c: built and run"
+
+cc_for -std=c99 -Wall -Wextra -pedantic -Werror -O2 -I include examples/element.c "$archive" -o "$work/element_c"
+said=$(run "$work/element_c") || { echo "examples/element.c: another sheet came back, or a refusal changed it:"; echo "$said"; exit 1; }
+elements='written packets 1 bytes 39
+written packets 1 bytes 41
+read packets 1 numbers 15
+refused 19 at 15'
+[ "$said" = "$elements" ] || { echo "examples/element.c printed:"; echo "$said"; exit 1; }
+echo "examples/element.c: built and run"
 
 if [ "$(uname -m)" = x86_64 ]; then
   need rustc rustc

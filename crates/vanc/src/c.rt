@@ -1,11 +1,14 @@
 // The calls under their C names, for programs in C or Rust: include/vanc.h says what each takes and gives back. A slice is two arguments there, its
 // start and its length.
 use frame::StringByte;
+use mxf::ElementRead;
+use mxf::ElementWritten;
 use rules::Laid;
 use rules::ReadBack;
 use rules::Step;
 ghost use mathlib.Core.Path.{_≡_};
 ghost use Rattle.rules.specs.Demands.{Lays, Reads};
+ghost use Rattle.mxf.specs.Demands.{Writes as WritesElement, Reads as ReadsElement};
 ghost use Rattle.rules.specs.Walker.{walk as walked};
 
 #[no_mangle]
@@ -27,4 +30,23 @@ pub extern "C" fn vanc_walk(system: u64, string: &[u8], place: u64) -> Step
     ensures { λ r. ⌜ r ≡ walked system (now (string .entry)) place ⌝ }
 {
     danc::walk(system, string, StringByte(place))
+}
+
+#[no_mangle]
+pub extern "C" fn vanc_mxf_write(sheet: &[u16], fi: bool, element: &mut [u8]) -> ElementWritten
+    ensures { λ r. ⌜ WritesElement fi (now (sheet .entry)) (now (element .entry)) r (now (element .exit)) ⌝ }
+{
+    mxf::write(sheet, fi, element)
+}
+
+#[no_mangle]
+pub extern "C" fn vanc_mxf_read(
+    system: u64,
+    fi: bool,
+    element: &[u8],
+    sheet: &mut [u16],
+) -> ElementRead
+    ensures { λ r. ⌜ ReadsElement system fi (now (element .entry)) (now (sheet .entry)) r (now (sheet .exit)) ⌝ }
+{
+    mxf::read(system, fi, element, sheet)
 }

@@ -1,0 +1,56 @@
+/*
+ * Writes the MXF ANC elements of the two frames of a 720/60p sheet, reads one back, and says what is wrong with a damaged one.
+ *
+ *     cc -I include examples/element.c libvanc.a -o element
+ */
+#include "vanc.h"
+
+#include <inttypes.h>
+#include <stdio.h>
+#include <string.h>
+
+/* System 3; line 9, FI 0 and YCF 1 (luma), and line 12, FI 1 and YCF 0; the packets 45h 01h with 10h 80h, and 45h 01h with none. */
+static const uint16_t sheet[] = {
+    1, 3,
+    2, 9, 2, 12, 1,
+    16, 0x000, 0x3FF, 0x3FF, 0x145, 0x101, 0x102, 0x110, 0x180, 0x1D8,
+        0x000, 0x3FF, 0x3FF, 0x145, 0x101, 0x200, 0x246,
+};
+
+/* What comes back of the packets with FI 0. */
+static const uint16_t first[] = {
+    1, 3,
+    1, 9, 2,
+    9, 0x000, 0x3FF, 0x3FF, 0x145, 0x101, 0x102, 0x110, 0x180, 0x1D8,
+};
+
+static uint8_t element[VANC_ELEMENT_MAX];
+static uint16_t back[VANC_ELEMENT_SHEET_MAX];
+
+static size_t write_element(bool fi)
+{
+    vanc_element_written written = vanc_mxf_write(sheet, sizeof sheet / sizeof sheet[0], fi, element, sizeof element);
+    if (written.number != 0) {
+        printf("refused %" PRIu64 " at %" PRIu64 "\n", written.number, written.place);
+        return 0;
+    }
+    printf("written packets %" PRIu64 " bytes %" PRIu64 "\n", written.packets, written.bytes);
+    return written.bytes;
+}
+
+int main(void)
+{
+    if (write_element(true) == 0) {
+        return 1;
+    }
+    size_t bytes = write_element(false);
+    vanc_element_read read = vanc_mxf_read(3, false, element, bytes, back, VANC_ELEMENT_SHEET_MAX);
+    printf("read packets %" PRIu64 " numbers %" PRIu64 "\n", read.packets, read.numbers);
+    if (read.number != 0 || read.numbers != sizeof first / sizeof first[0] || memcmp(first, back, sizeof first) != 0) {
+        return 1;
+    }
+    element[15] = 0; /* the end of the key */
+    read = vanc_mxf_read(3, false, element, bytes, back, VANC_ELEMENT_SHEET_MAX);
+    printf("refused %" PRIu64 " at %" PRIu64 "\n", read.number, read.place);
+    return memcmp(first, back, sizeof first) != 0;
+}
