@@ -7,7 +7,7 @@ cd "$(dirname "$0")/.."
 top=$PWD
 work=$(mktemp -d)
 trap 'rm -rf "$work"' EXIT
-quietly rt check lister layer reader
+quietly rt check lister layer reader mxf_write mxf_read
 cd "$work"
 done_tests=0
 
@@ -41,16 +41,22 @@ expect() {
 # same NAME: every file is as `fresh` made it, and none is beside them.
 same() {
   local f
-  for f in cue.sheet frame.area; do
-    cmp -s "$f" "kept/$f" || fail "$1: $f has changed"
+  for f in kept/*; do
+    cmp -s "${f#kept/}" "$f" || fail "$1: ${f#kept/} has changed"
   done
-  [ "$(ls)" = "$(ls kept; echo kept)" ] || fail "$1: files were left: $(ls)"
+  [ "$(ls | sort)" = "$({ ls kept; echo kept; } | sort)" ] || fail "$1: files were left: $(ls)"
 }
 
+# The samples that a test starts with.
+given="cue.sheet frame.area"
+
 fresh() {
+  local f
   rm -rf ./*
   mkdir kept
-  cp "$top/samples/cue.sheet" "$top/samples/frame.area" .
+  for f in $given; do
+    cp "$top/samples/$f" .
+  done
   "$@"
   cp ./*.* kept/
 }
@@ -122,6 +128,64 @@ refused "a wrong checksum" "refused 10 at 0" "" layer 1 cue.sheet frame.area
 fresh first_byte
 refused "a wrong first byte" "refused 13 at 0" "" reader 1 frame.area back.sheet
 
+# MXF elements: what is written is read; a packet of the other FI is passed over; and refusals leave every file as it was.
+given="cue.sheet film.sheet"
+fresh true
+expect "writing an element" "written packets 2 bytes 59" "" mxf_write 0 film.sheet film.anc
+expect "reading it" "read packets 2 numbers 25" "" mxf_read 3 0 film.anc back.sheet
+expect "writing what came back" "written packets 2 bytes 59" "" mxf_write 0 back.sheet again.anc
+cmp -s film.anc again.anc || fail "the element of what came back is not the element"
+expect "reading it as the other frame's" "read packets 2 numbers 25" "" mxf_read 3 1 film.anc other.sheet
+expect "which has the other FI" "written packets 0 bytes 22" "" mxf_write 0 other.sheet none.anc
+expect "and its own" "written packets 2 bytes 59" "" mxf_write 1 other.sheet film.anc
+expect "an element without packets" "read packets 0 numbers 4" "" mxf_read 1 0 none.anc back.sheet
+[ "$(program lister <back.sheet)" = "system 1 packets 0 bytes 0 packs 0" ] || fail "an element without packets: $(program lister <back.sheet)"
+
+fresh true
+refused "a served packet without a line" "refused 18 at 3" "" mxf_write 1 film.sheet film.anc
+refused "a packet without a line in 1080" "refused 18 at 2" "" mxf_write 0 cue.sheet film.anc
+refused "FI 2" "" "FI: neither 0 nor 1" mxf_write 2 film.sheet film.anc
+refused "FI x" "" "FI: not a number" mxf_write x film.sheet film.anc
+refused "no arguments for mxf_write" "" "mxf_write FI SHEET ELEMENT" mxf_write
+refused "no arguments for mxf_read" "" "mxf_read SYSTEM FI ELEMENT SHEET" mxf_read
+refused "no sheet to write" "" "nothing.sheet: No such file or directory" mxf_write 0 nothing.sheet film.anc
+refused "no element to read" "" "nothing.anc: No such file or directory" mxf_read 1 0 nothing.anc back.sheet
+refused "a folder for the element" "" "kept: Is a directory" mxf_write 0 film.sheet kept
+refused "an element that is a sheet" "refused 19 at 0" "" mxf_read 3 0 film.sheet back.sheet
+refused "an unknown system" "refused 3 at 0" "" mxf_read 4 0 film.sheet back.sheet
+refused "an empty element" "refused 19 at 0" "" mxf_read 3 0 /dev/null back.sheet
+
+long_element() { head -c 262145 /dev/zero >long.anc; }
+fresh long_element
+refused "an element too long for the program" "" "long.anc: longer than the 262144 bytes" mxf_read 3 0 long.anc back.sheet
+long_film_sheet() { head -c 65538 /dev/zero >film.sheet; }
+fresh long_film_sheet
+refused "a long sheet for an element" "refused 2 at 0" "film.sheet: an odd number of bytes, or more than 65536" mxf_write 0 film.sheet film.anc
+
+# Elements of other programs (docs/OUTSIDE-ELEMENTS.md): the byte at which each is refused, then mended.
+poke() { printf "$3" | dd of="$1" bs=1 seek="$2" conv=notrunc status=none; }
+long_form() { { head -c 16 "$1"; printf '\203\000\000'; tail -c +17 "$1"; } >mended && mv mended "$1"; }
+for name in gstreamer_000 gstreamer_004 ffmpeg_004; do
+  rm -rf ./*
+  cp "$top/tests/vectors/$name.anc" element.anc
+  case $name in
+  gstreamer_*)
+    expect "$name" "refused 19 at 16" "" mxf_read 1 0 element.anc back.sheet
+    long_form element.anc
+    ;;
+  ffmpeg_*)
+    expect "$name" "refused 19 at 15" "" mxf_read 1 0 element.anc back.sheet
+    poke element.anc 15 '\001'
+    ;;
+  esac
+  expect "$name, first fault mended" "refused 19 at 38" "" mxf_read 1 0 element.anc back.sheet
+  [ "$(ls)" = element.anc ] || fail "$name: files were left: $(ls)"
+  poke element.anc 27 '\114'
+  expect "$name, mended" "read packets 1 numbers 86" "" mxf_read 1 0 element.anc back.sheet
+  [ "$(program lister <back.sheet)" = "$(printf 'system 1 packets 1 bytes 80 packs 21\n0 9 2 61 01 73')" ] || fail "$name: $(program lister <back.sheet)"
+  [ "$(tail -c 1 back.sheet | od -An -tx1)" = "$(od -An -tx1 -j112 -N1 element.anc)" ] || fail "$name: the CS that is made is not the one that was counted"
+done
+
 # A disk that is full: no file may have more than a block, and the signal that would end the program is ignored, so that its write fails.
 full() {
   (
@@ -130,6 +194,7 @@ full() {
     program "$@" 2>stderr
   )
 }
+given="cue.sheet frame.area"
 fresh true
 said=$(full layer 1 cue.sheet frame.area) || fail "a full disk: it did not end well"
 [ -z "$said" ] || fail "a full disk: printed '$said'"

@@ -56,6 +56,16 @@ pub fn number_argument(i: usize, name: &[u8]) -> u64 {
     n
 }
 
+// The 0 or 1 that is argument i; `NOT_A_NUMBER` where it is neither, which is then said.
+pub fn bit_argument(i: usize, name: &[u8]) -> u64 {
+    let n = number_argument(i, name);
+    if n == NOT_A_NUMBER || n < 2 {
+        return n;
+    }
+    say(name, b": neither 0 nor 1\n");
+    NOT_A_NUMBER
+}
+
 fn no_path(name: &[u8]) {
     if os::errno() != 0 {
         os::fail(name);

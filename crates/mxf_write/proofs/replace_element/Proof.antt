@@ -1,0 +1,40 @@
+-- `mxf_write::replace_element` meets its contract: the element is a part of the buffer.
+-- Assumes nothing.
+use mathlib.Core.Path.{sym}
+use lib.Seq.{length-take-le}
+use borrow.Author.Needs.{needs}
+use Rattle.mxf_write.proofs.replace_element.Statement.{statement}
+use Rattle.mxf_write.proofs.replace_element.Tie as tie
+
+returns : tie.Need-returns
+returns c = search needs
+
+returns-2 : tie.Need-returns-2
+returns-2 c = search needs
+
+slice-aggregate-replace-file : tie.Need-slice-aggregate-replace-file
+slice-aggregate-replace-file c = sym (length-take-le _ _ (search needs))
+
+replace-file-requires : tie.Need-replace-file-requires
+replace-file-requires c κs = search needs
+
+print-written-requires : tie.Need-print-written-requires
+print-written-requires c κs = search needs
+
+returns-3 : tie.Need-returns-3
+returns-3 c = search needs
+
+returns-4 : tie.Need-returns-4
+returns-4 c = search needs
+
+pub replace-element-spec : {M : Type 1} → statement M
+replace-element-spec =
+    tie.close
+    (tie.spec
+    returns
+    returns-2
+    slice-aggregate-replace-file
+    replace-file-requires
+    print-written-requires
+    returns-3
+    returns-4)
