@@ -1,8 +1,9 @@
 /*
  * Answers requests on standard input with calls of libvanc, on standard output, until the input ends.
  *
- * Request: five numbers (64 bits, low byte first): call (0 lay, 1 read, 2 walk), packing or system, place, length of what the call reads,
- * length of what it may write, both in bytes; then those bytes. A sheet's numbers have their low byte first.
+ * Request: five numbers (64 bits, low byte first): call (0 lay, 1 read, 2 walk, 3 mxf write, 4 mxf read), packing or system, place or FI,
+ * length of what the call reads, length of what it may write, both in bytes; then those bytes. A sheet's numbers have their low byte
+ * first.
  * Answer: five numbers, the result's fields in the header's order and then 0; a sixth, 0 or the bits of what was changed that may not be
  * (see CHANGED_); then all bytes of what the call may write.
  *
@@ -19,7 +20,7 @@
 
 #include "vanc.h"
 
-enum { LAY, READ, WALK };
+enum { LAY, READ, WALK, MXF_WRITE, MXF_READ };
 enum { GUARDED, EXACT, FENCED };
 /* Guards of what a call reads; for what it writes two bits higher, 4 and 8. */
 enum { CHANGED_BEFORE = 1, CHANGED_BEHIND = 2, CHANGED_READ_ONLY = 16 };
@@ -100,9 +101,16 @@ static void call(const uint64_t request[5], lent from, lent to, uint64_t answer[
     } else if (request[0] == READ) {
         vanc_read_back r = vanc_read(request[1], from.bytes, from.length, (uint16_t *)to.bytes, to.length / 2);
         memcpy(answer, (uint64_t[]){ r.number, r.place, r.packing, r.packets, r.numbers }, 5 * sizeof *answer);
-    } else {
+    } else if (request[0] == WALK) {
         vanc_step r = vanc_walk(request[1], from.bytes, from.length, request[2]);
         memcpy(answer, (uint64_t[]){ r.number, r.place, r.length }, 3 * sizeof *answer);
+    } else if (request[0] == MXF_WRITE) {
+        vanc_element_written r = vanc_mxf_write((const uint16_t *)from.bytes, from.length / 2, request[2] != 0, to.bytes, to.length);
+        memcpy(answer, (uint64_t[]){ r.number, r.place, r.packets, r.bytes }, 4 * sizeof *answer);
+    } else {
+        vanc_element_read r =
+            vanc_mxf_read(request[1], request[2] != 0, from.bytes, from.length, (uint16_t *)to.bytes, to.length / 2);
+        memcpy(answer, (uint64_t[]){ r.number, r.place, r.packets, r.numbers }, 4 * sizeof *answer);
     }
 }
 

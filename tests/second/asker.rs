@@ -3,7 +3,7 @@
 use std::io::{self, Read, Write};
 use std::process::{Child, ChildStdin, ChildStdout, Command, Stdio};
 
-use crate::cases::{Answer, Call, LAY, READ};
+use crate::cases::{Answer, Call};
 
 /// The answering program, started afresh when it has ended.
 pub struct Asker {
@@ -52,13 +52,15 @@ fn bytes_of(numbers: &[u16]) -> Vec<u8> {
 
 /// The bytes of a request.
 pub fn request(call: &Call) -> Vec<u8> {
-    let (first, place, reads, writes) = match call {
+    let (first, second, reads, writes) = match call {
         Call::Lay { sheet, packing, area } => (*packing, 0, bytes_of(sheet), area.clone()),
         Call::Read { system, area, buffer } => (*system, 0, area.clone(), bytes_of(buffer)),
         Call::Walk { system, string, place } => (*system, *place, string.clone(), Vec::new()),
+        Call::MxfWrite { sheet, fi, element } => (0, u64::from(*fi), bytes_of(sheet), element.clone()),
+        Call::MxfRead { system, fi, element, buffer } => (*system, u64::from(*fi), element.clone(), bytes_of(buffer)),
     };
     let mut bytes = Vec::new();
-    for number in [call.which() as u64, first, place, reads.len() as u64, writes.len() as u64] {
+    for number in [call.which() as u64, first, second, reads.len() as u64, writes.len() as u64] {
         bytes.extend(number.to_le_bytes());
     }
     bytes.extend(reads);
@@ -75,18 +77,20 @@ pub fn answer(call: &Call, from: &mut impl Read) -> io::Result<Answer> {
         *number = u64::from_le_bytes(bytes);
     }
     let length = match call {
-        Call::Lay { area, .. } => area.len(),
-        Call::Read { buffer, .. } => 2 * buffer.len(),
+        Call::Lay { area: lent, .. } | Call::MxfWrite { element: lent, .. } => lent.len(),
+        Call::Read { buffer, .. } | Call::MxfRead { buffer, .. } => 2 * buffer.len(),
         Call::Walk { .. } => 0,
     };
     let mut bytes = vec![0; length];
     from.read_exact(&mut bytes)?;
-    let mut answer = Answer { fields: [0; 5], changed: numbers[5], area: Vec::new(), buffer: Vec::new() };
+    let mut answer = Answer { fields: [0; 5], changed: numbers[5], bytes: Vec::new(), buffer: Vec::new() };
     answer.fields.copy_from_slice(&numbers[..5]);
-    match call.which() {
-        LAY => answer.area = bytes,
-        READ => answer.buffer = bytes.chunks(2).map(|pair| u16::from_le_bytes([pair[0], pair[1]])).collect(),
-        _ => {}
+    match call {
+        Call::Lay { .. } | Call::MxfWrite { .. } => answer.bytes = bytes,
+        Call::Read { .. } | Call::MxfRead { .. } => {
+            answer.buffer = bytes.chunks(2).map(|pair| u16::from_le_bytes([pair[0], pair[1]])).collect();
+        }
+        Call::Walk { .. } => {}
     }
     Ok(answer)
 }

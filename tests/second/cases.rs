@@ -2,7 +2,7 @@
 
 use crate::random::Random;
 use crate::rules::{self, system, System};
-use crate::{lay_cases, read_cases, walk_cases};
+use crate::{element, element_read_cases, element_write_cases, lay_cases, read_cases, walk_cases};
 
 /// What a call is given.
 #[derive(Clone, PartialEq)]
@@ -10,14 +10,17 @@ pub enum Call {
     Lay { sheet: Vec<u16>, packing: u64, area: Vec<u8> },
     Read { system: u64, area: Vec<u8>, buffer: Vec<u16> },
     Walk { system: u64, string: Vec<u8>, place: u64 },
+    MxfWrite { sheet: Vec<u16>, fi: bool, element: Vec<u8> },
+    MxfRead { system: u64, fi: bool, element: Vec<u8>, buffer: Vec<u16> },
 }
 
-/// What a call gives back: the result's fields in the header's order (then 0), guards that were changed, and the lent buffer.
+/// What a call gives back: the result's fields in the header's order (then 0), guards that were changed, and the lent buffer: an area's
+/// or element's bytes, or a sheet's numbers.
 #[derive(PartialEq)]
 pub struct Answer {
     pub fields: [u64; 5],
     pub changed: u64,
-    pub area: Vec<u8>,
+    pub bytes: Vec<u8>,
     pub buffer: Vec<u16>,
 }
 
@@ -34,7 +37,10 @@ pub const UNKNOWN: [u64; 13] =
 pub const LAY: usize = 0;
 pub const READ: usize = 1;
 pub const WALK: usize = 2;
-pub const NAMES: [&str; 3] = ["lay", "read", "walk"];
+pub const MXF_WRITE: usize = 3;
+pub const MXF_READ: usize = 4;
+pub const CALLS: usize = 5;
+pub const NAMES: [&str; CALLS] = ["lay", "read", "walk", "mxf write", "mxf read"];
 
 impl Call {
     pub fn which(&self) -> usize {
@@ -42,17 +48,19 @@ impl Call {
             Call::Lay { .. } => LAY,
             Call::Read { .. } => READ,
             Call::Walk { .. } => WALK,
+            Call::MxfWrite { .. } => MXF_WRITE,
+            Call::MxfRead { .. } => MXF_READ,
         }
     }
 
-    /// The answer by document 01.
+    /// The answer by document 01 and request A1.
     pub fn expected(&self) -> Answer {
-        let mut answer = Answer { fields: [0; 5], changed: 0, area: Vec::new(), buffer: Vec::new() };
+        let mut answer = Answer { fields: [0; 5], changed: 0, bytes: Vec::new(), buffer: Vec::new() };
         match self {
             Call::Lay { sheet, packing, area } => {
                 let laid = rules::lay(sheet, *packing, area);
                 answer.fields = [laid.number, laid.place, laid.packs, laid.bytes, 0];
-                answer.area = laid.area;
+                answer.bytes = laid.area;
             }
             Call::Read { system, area, buffer } => {
                 let back = rules::read(*system, area, buffer);
@@ -63,6 +71,16 @@ impl Call {
                 let step = rules::walk(*system, string, *place);
                 answer.fields = [step.number, step.place, step.length, 0, 0];
             }
+            Call::MxfWrite { sheet, fi, element } => {
+                let written = element::write(sheet, *fi, element);
+                answer.fields = [written.number, written.place, written.packets, written.bytes, 0];
+                answer.bytes = written.element;
+            }
+            Call::MxfRead { system, fi, element, buffer } => {
+                let back = element::read(*system, *fi, element, buffer);
+                answer.fields = [back.number, back.place, back.packets, back.numbers, 0];
+                answer.buffer = back.buffer;
+            }
         }
         answer
     }
@@ -72,12 +90,32 @@ pub fn any_system(random: &mut Random) -> System {
     system(random.between(1, 3) as u64).expect("1 to 3 are systems")
 }
 
+/// For elements: 720, where FI matters, as often as 1080.
+pub fn system_and_fi(random: &mut Random) -> (System, bool) {
+    let number = random.pick(&[1, 2, 3, 3]);
+    (system(number).expect("1 to 3 are systems"), random.chance(50))
+}
+
+/// A name for the size of an element: how full an area would be is nothing to it.
+pub fn how_many(packets: usize) -> &'static str {
+    match packets {
+        0 => "no packet",
+        1..=3 => "1 to 3 packets",
+        4..=40 => "4 to 40 packets",
+        41..=512 => "41 to 512 packets",
+        _ => "over 512 packets",
+    }
+}
+
+/// A fourth of the cases are of elements.
 pub fn make(seed: u64, case: u64) -> Case {
     let mut random = Random::of_case(seed, case);
-    match random.weighted(&[42, 42, 16]) {
+    match random.weighted(&[252, 252, 96, 90, 110]) {
         LAY => lay_cases::make(&mut random),
         READ => read_cases::make(&mut random),
-        _ => walk_cases::make(&mut random),
+        WALK => walk_cases::make(&mut random),
+        MXF_WRITE => element_write_cases::make(&mut random),
+        _ => element_read_cases::make(&mut random),
     }
 }
 

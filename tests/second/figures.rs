@@ -1,7 +1,9 @@
-//! The worked figures of document 01 against these rules, and of its rulings what has figures.
+//! The worked figures of document 01 against these rules, and of its rulings what has figures. Then elements in full, and elements of
+//! other programs.
 
+use crate::element;
 use crate::packet::{checksum_word, danc, sheet, words, Packet};
-use crate::rules::{lay, read, walk};
+use crate::rules::{lay, read, system, walk};
 
 fn packet(line: u16, flags: u16, user: &[u8]) -> Packet {
     let mut bytes = vec![0x45, 0x01, user.len() as u8];
@@ -87,4 +89,140 @@ fn line_0_and_the_walker() {
     assert_eq!((walk(1, &string, 9).number, walk(1, &string, 9).place), (16, 9));
     assert_eq!((walk(4, &[], 5).number, walk(4, &[], 5).place), (3, 0));
     assert_eq!(checksum_word(&[0x45, 0x01, 0x02, 0x10, 0x80]), 0x1D8);
+}
+
+/// What reading an element for a system and FI gives: number and place.
+fn refusal(system: u64, element: &[u8]) -> (u64, u64) {
+    let back = element::read(system, false, element, &[7; 200]);
+    assert!(back.number == 0 || (back.packets, back.numbers, &back.buffer[..]) == (0, 0, &[7; 200][..]));
+    (back.number, back.place)
+}
+
+const P_ELEMENT: &[u8] = b"\x06\x0E\x2B\x34\x01\x02\x01\x01\x0D\x01\x03\x01\x17\x01\x02\x01\x83\x00\x00\x15\x00\x01\
+    \x00\x09\x01\x05\x00\x05\x00\x00\x00\x05\x00\x00\x00\x01\x45\x01\x02\x10\x80";
+
+#[test]
+fn element_of_packet_p() {
+    let p_sheet = sheet(1, &[packet(9, 0, &[0x10, 0x80])]);
+    for fi in [false, true] {
+        let written = element::write(&p_sheet, fi, &[0x55; 44]);
+        assert_eq!((written.number, written.place, written.packets, written.bytes), (0, 0, 1, 41));
+        assert_eq!(written.element, [P_ELEMENT, &[0x55; 3]].concat());
+        let back = element::read(1, fi, P_ELEMENT, &[7; 20]);
+        assert_eq!((back.number, back.packets, back.numbers), (0, 1, 15));
+        assert_eq!(back.buffer, [&p_sheet[..], &[7; 5]].concat());
+    }
+    let short = element::write(&p_sheet, false, &[0x55; 40]);
+    assert_eq!((short.number, short.place, short.packets, short.bytes, short.element), (17, 0, 0, 0, vec![0x55; 40]));
+    let back = element::read(1, false, P_ELEMENT, &[7; 14]);
+    assert_eq!((back.number, back.place, back.packets, back.numbers, back.buffer), (17, 0, 0, 0, vec![7; 14]));
+    // 720 has another wrapping; an unknown system is told before the element is looked at.
+    assert_eq!((refusal(3, P_ELEMENT), refusal(4, P_ELEMENT), refusal(0, &[])), ((19, 24), (3, 0), (3, 0)));
+}
+
+#[test]
+fn element_of_720() {
+    let packets = [packet(0, 1, &[]), packet(9, 2, &[]), packet(0, 0, &[]), packet(750, 3, &[])];
+    let number = |fi, packets: &[Packet]| {
+        let written = element::write(&sheet(3, packets), fi, &[0; 60]);
+        (written.number, written.place)
+    };
+    // FI 1 has a packet without a line at 0, FI 0 at 2. Without those each is served alone.
+    assert_eq!((number(true, &packets), number(false, &packets)), ((18, 0), (18, 2)));
+    let written = element::write(&sheet(3, &packets[2..]), true, &[0; 39]);
+    assert_eq!((written.number, written.packets, written.bytes), (0, 1, 39));
+    assert_eq!(written.element[19..], *b"\x13\x00\x01\x02\xEE\x04\x04\x00\x03\x00\x00\x00\x03\x00\x00\x00\x01\x45\x01\x00");
+    let back = element::read(3, true, &written.element, &[7; 13]);
+    assert_eq!(back.buffer, sheet(3, &packets[3..]));
+    assert_eq!(element::read(3, false, &written.element, &[7; 13]).buffer[4], 2);
+    // 1080 serves both.
+    assert_eq!(element::write(&sheet(2, &[packet(1, 0, &[]), packet(1125, 3, &[])]), true, &[0; 56]).packets, 2);
+}
+
+#[test]
+fn empty_element() {
+    let empty = element::write(&sheet(2, &[]), false, &[0x55; 22]);
+    assert_eq!((empty.number, empty.packets, empty.bytes), (0, 0, 22));
+    assert_eq!(empty.element[16..], *b"\x83\x00\x00\x02\x00\x00");
+    assert_eq!((element::write(&sheet(2, &[]), false, &[0x55; 21]).number, refusal(2, &empty.element)), (17, (0, 0)));
+    assert_eq!(element::read(2, false, &empty.element, &[7; 4]).buffer, [1, 2, 0, 0]);
+}
+
+/// Sound with padding of any values, and then one field after another wrong or missing.
+#[test]
+fn padded_element() {
+    let mut padded = [P_ELEMENT, b"\xD8\x00\xFF"].concat();
+    assert_eq!(refusal(1, &padded), (19, 17));
+    padded[19] = 0x18;
+    assert_eq!(refusal(1, &padded), (19, 41));
+    padded[31] = 0x08;
+    assert_eq!(element::read(1, false, &padded, &[7; 15]).buffer, sheet(1, &[packet(9, 0, &[0x10, 0x80])]));
+    let with = |at: usize, byte: u8| {
+        let mut wrong = padded.clone();
+        wrong[at] = byte;
+        refusal(1, &wrong)
+    };
+    assert_eq!((with(0, 0x07), with(15, 0x02), with(16, 0x84), with(18, 0x01)), ((19, 0), (19, 15), (19, 16), (19, 17)));
+    // N too small leaves surplus bytes, N too large makes the end come early.
+    assert_eq!((with(21, 0x00), with(21, 0x02), with(20, 0xFF)), ((19, 22), (19, 44), (19, 44)));
+    assert_eq!((with(23, 0x00), with(22, 0x04), with(24, 0x02), with(25, 0x06)), ((19, 22), (0, 0), (19, 24), (19, 25)));
+    assert_eq!((with(27, 0x02), with(27, 0x03), with(26, 0x01), with(27, 0x06)), ((19, 26), (19, 38), (19, 26), (19, 38)));
+    assert_eq!((with(31, 0x04), with(31, 0x09), with(28, 0xFF), with(31, 0x05)), ((19, 28), (19, 28), (19, 28), (19, 41)));
+    assert_eq!((with(35, 0x00), with(32, 0x01), with(38, 0x01), with(40, 0x81)), ((19, 32), (19, 32), (19, 38), (0, 0)));
+    let cut = |length: usize| {
+        let mut cut = padded[..length].to_vec();
+        if length >= 20 {
+            cut[19] = length as u8 - 20;
+        }
+        refusal(1, &cut)
+    };
+    for length in 0..44 {
+        // From the array count on it is the count that reaches past the end.
+        assert_eq!(cut(length), (19, if length < 32 { length as u64 } else { 28 }));
+    }
+}
+
+#[test]
+fn elements_over_the_limits() {
+    let structure = &P_ELEMENT[22..];
+    assert_eq!(refusal(1, &element::element(&vec![structure.to_vec(); 513])), (5, 512));
+    let back = element::read(1, false, &element::element(&vec![structure.to_vec(); 512]), &[7; 4 + 1024 + 9 * 512]);
+    assert_eq!((back.number, back.packets), (0, 512));
+    // 65,535 words, the most: 512 packets give the longest element and the longest sheet.
+    let mut packets = of_lengths(&[121; 512]);
+    packets[0] = packet(9, 0, &[0x80; 120]);
+    let written = element::write(&sheet(1, &packets), false, &[0; 70_677]);
+    assert_eq!((written.number, written.bytes, element::write(&sheet(1, &packets), false, &[0; 70_676]).number), (0, 70_677, 17));
+    let back = element::read(1, false, &written.element, &[0; 66_563]);
+    assert_eq!((back.number, back.numbers), (0, 66_563));
+    assert_eq!(element::read(1, false, &written.element, &[0; 66_562]).number, 17);
+    packets[0] = packet(9, 0, &[0x80; 121]);
+    let structures: Vec<Vec<u8>> = packets.iter().map(|packet| element::structure(&system(1).unwrap(), packet)).collect();
+    let back = element::read(1, false, &element::element(&structures), &[0; 70_000]);
+    assert_eq!((back.number, back.place, back.packets, back.numbers), (17, 0, 0, 0));
+}
+
+/// Elements of other programs (tests/vectors): how they are refused, and what they give when one fault after another is mended.
+#[test]
+fn elements_of_other_programs() {
+    let gstreamer: [&[u8]; 2] = [include_bytes!("../vectors/gstreamer_000.anc"), include_bytes!("../vectors/gstreamer_004.anc")];
+    let ffmpeg: &[u8] = include_bytes!("../vectors/ffmpeg_004.anc");
+    let mut mended = Vec::new();
+    for element in gstreamer {
+        assert_eq!(refusal(1, element), (19, 16));
+        mended.push([&element[..16], b"\x83\x00\x00\x60", &element[17..]].concat());
+    }
+    assert_eq!(refusal(1, ffmpeg), (19, 15));
+    mended.push([&ffmpeg[..15], b"\x01", &ffmpeg[16..]].concat());
+    for mut element in mended {
+        // 77 samples would be DC 74, and DC is 73.
+        assert_eq!((refusal(1, &element), refusal(3, &element)), ((19, 38), (19, 24)));
+        element[27] = 0x4C;
+        let expected = Packet { line: 9, flags: 2, bytes: element[36..112].to_vec() };
+        let back = element::read(1, true, &element, &[7; 90]);
+        assert_eq!((back.number, back.packets, back.numbers), (0, 1, 86));
+        assert_eq!(back.buffer, [sheet(1, &[expected]), vec![7; 4]].concat());
+        // The padding begins with CS, as these programs count it.
+        assert_eq!(element[112], checksum_word(&element[36..112]) as u8);
+    }
 }

@@ -1,276 +1,63 @@
 //! Cases for laying: sheets that are sound, and sheets with one or more faults.
 
 use crate::cases::{any_system, wrong_length, Call, Case, UNKNOWN};
-use crate::lists::{list, packet};
-use crate::packet::{parity_word, with_bit_9, words, Packet};
+use crate::lists::list;
 use crate::random::Random;
 use crate::rules::System;
-
-/// A sheet in its parts, so that several faults can be put into one, and what else laying is given.
-struct Draft {
-    count_a: u16,
-    system: u16,
-    count_p_off: u16,
-    locations: Vec<[u16; 2]>,
-    count_w_off: u16,
-    packets: Vec<Vec<u16>>,
-    behind: Vec<u16>,
-    cut: usize,
-    packing: u64,
-    area: Vec<u8>,
-}
-
-impl Draft {
-    fn of(system: &System, packets: &[Packet], packing: u64, area: Vec<u8>) -> Draft {
-        Draft {
-            count_a: 1,
-            system: system.number as u16,
-            count_p_off: 0,
-            locations: packets.iter().map(|packet| [packet.line, packet.flags]).collect(),
-            count_w_off: 0,
-            packets: packets.iter().map(words).collect(),
-            behind: Vec::new(),
-            cut: 0,
-            packing,
-            area,
-        }
-    }
-
-    fn call(self) -> Call {
-        let words = self.packets.concat();
-        let mut sheet = vec![self.count_a, self.system];
-        sheet.push((self.locations.len() as u16).wrapping_add(self.count_p_off));
-        sheet.extend(self.locations.concat());
-        sheet.push((words.len() as u16).wrapping_add(self.count_w_off));
-        sheet.extend(words);
-        sheet.extend(self.behind);
-        sheet.truncate(sheet.len().saturating_sub(self.cut));
-        Call::Lay { sheet, packing: self.packing, area: self.area }
-    }
-}
+use crate::sheets::{self, few_numbers, near_the_limit, packets_near_the_limit, Draft};
 
 pub fn make(random: &mut Random) -> Case {
     let system = any_system(random);
     let packing = random.between(1, 2) as u64;
+    let area = random.background(system.area_bytes());
     let (kind, call) = match random.weighted(&[1, 2, 97]) {
-        0 => ("lay, sheets near the limit of 16 bits".to_string(), huge(random, &system, packing)),
-        1 => ("lay, a few numbers".to_string(), few_numbers(random, packing)),
-        _ => {
-            let list = list(random, &system, packing);
-            let area = random.background(system.area_bytes());
-            let mut draft = Draft::of(&system, &list.packets, packing, area);
-            let faults = random.pick(&[0, 0, 0, 1, 1, 1, 1, 2, 2, 3]);
-            let mut kind = format!("lay, {}", list.kind);
-            for _ in 0..faults {
-                kind = format!("lay, fault: {}", put_fault(random, &mut draft, &system));
-            }
-            if faults > 1 {
-                kind = format!("lay, {faults} faults");
-            }
-            (kind, draft.call())
+        0 => {
+            let packets = packets_near_the_limit(random, &system);
+            let sheet = near_the_limit(random, &system, &packets);
+            ("lay, sheets near the limit of 16 bits".to_string(), Call::Lay { sheet, packing, area })
         }
+        1 => ("lay, a few numbers".to_string(), a_few_numbers(random, packing)),
+        _ => of_list(random, &system, packing, area),
     };
     Case { kind, call }
 }
 
-/// Puts one fault into the draft, and names it. Some leave the sheet sound, as a count that is off by 0.
-fn put_fault(random: &mut Random, draft: &mut Draft, system: &System) -> &'static str {
-    match random.weighted(&[5, 3, 5, 5, 5, 5, 3, 5, 8, 10, 20, 12, 8, 6, 6, 6]) {
-        0 => wrong_packing(random, draft),
-        1 => put(&mut draft.count_a, random.pick(&[0, 2, 3, 256, 257, 65_535]), "count A"),
-        2 => put(&mut draft.system, random.pick(&[0, 1, 2, 3, 4, 255, 257, 65_535]), "system"),
-        3 => put(&mut draft.count_p_off, count_off(random), "count P"),
-        4 => put(&mut draft.count_w_off, count_off(random), "count W"),
-        5 => put(&mut draft.cut, random.pick(&[1, 2, 3, 7, 9, 65_535]), "sheet cut"),
-        6 => cut_anywhere(random, draft),
-        7 => put(&mut draft.behind, (0..random.between(1, 4)).map(|_| random.pick(&[0, 1, 0x3FF])).collect(), "sheet too long"),
-        8 => wrong_area(random, draft),
-        9 => wrong_location(random, draft, system),
-        10 => wrong_word(random, draft),
-        11 => wrong_checksum(random, draft),
-        12 => wrong_dc(random, draft),
-        13 => cut_packet(random, draft),
-        14 => words_added(random, draft, system),
-        _ => locations_differ(random, draft),
+/// A list's sheet with none or up to three faults.
+fn of_list(random: &mut Random, system: &System, mut packing: u64, mut area: Vec<u8>) -> (String, Call) {
+    let list = list(random, system, packing);
+    let mut draft = Draft::of(system, &list.packets);
+    let faults = random.pick(&[0, 0, 0, 1, 1, 1, 1, 2, 2, 3]);
+    let mut kind = format!("lay, {}", list.kind);
+    for _ in 0..faults {
+        let name = match random.weighted(&[5, 8, 99]) {
+            0 => {
+                packing = wrong_packing(random);
+                "packing"
+            }
+            1 => {
+                area = wrong_area(random, draft.system);
+                "area length"
+            }
+            _ => sheets::put_fault(random, &mut draft, system),
+        };
+        kind = format!("lay, fault: {name}");
     }
+    if faults > 1 {
+        kind = format!("lay, {faults} faults");
+    }
+    (kind, Call::Lay { sheet: draft.sheet(), packing, area })
 }
 
-fn wrong_packing(random: &mut Random, draft: &mut Draft) -> &'static str {
+fn wrong_packing(random: &mut Random) -> u64 {
     let unknown = random.pick(&UNKNOWN);
-    put(&mut draft.packing, random.pick(&[0, 3, unknown, unknown]), "packing")
+    random.pick(&[0, 3, unknown, unknown])
 }
 
-fn put<T>(at: &mut T, value: T, name: &'static str) -> &'static str {
-    *at = value;
-    name
+fn wrong_area(random: &mut Random, system: u16) -> Vec<u8> {
+    let length = wrong_length(random, if system == 2 { 11_520 } else { 9_600 });
+    random.background(length)
 }
 
-/// One or two more or less, any, or such that twice the count is the same in 16 bits.
-fn count_off(random: &mut Random) -> u16 {
-    let any = random.number();
-    random.pick(&[1, 2, 7, 65_535, 65_534, 32_768, any])
-}
-
-fn cut_anywhere(random: &mut Random, draft: &mut Draft) -> &'static str {
-    let section_c = 3 + 2 * draft.locations.len();
-    let length = section_c + 1 + draft.packets.concat().len();
-    let any = random.below(length);
-    let keep = random.pick(&[0, 1, 2, 3, section_c, section_c + 1, any]);
-    put(&mut draft.cut, length - keep, "sheet cut")
-}
-
-fn wrong_area(random: &mut Random, draft: &mut Draft) -> &'static str {
-    let length = wrong_length(random, if draft.system == 2 { 11_520 } else { 9_600 });
-    put(&mut draft.area, random.background(length), "area length")
-}
-
-fn wrong_location(random: &mut Random, draft: &mut Draft, system: &System) -> &'static str {
-    if !draft.locations.is_empty() {
-        let k = random.index(draft.locations.len());
-        let last = system.last_line;
-        if random.chance(60) {
-            draft.locations[k][0] = random.pick(&[last + 1, last + 1, last + 2, 1126, 1125, 751, 2047, 2048, 2049, 32_769, 65_535]);
-        } else {
-            draft.locations[k][1] = random.pick(&[4, 4, 5, 7, 8, 128, 255, 256, 257, 32_768, 65_535]);
-            let any = random.below(draft.locations.len());
-            draft.locations[any][0] = random.pick(&[0, last, last + 1]);
-        }
-    }
-    "location"
-}
-
-/// The packet that a fault goes to: often the first or the last.
-fn chosen<'a>(random: &mut Random, draft: &'a mut Draft) -> Option<&'a mut Vec<u16>> {
-    if draft.packets.is_empty() {
-        return None;
-    }
-    let k = random.index(draft.packets.len());
-    Some(&mut draft.packets[k])
-}
-
-fn wrong_word(random: &mut Random, draft: &mut Draft) -> &'static str {
-    let words = match chosen(random, draft).filter(|words| words.len() >= 7) {
-        Some(words) => words,
-        None => return "word",
-    };
-    let end = words.len() - 1;
-    let any = random.below(end + 1);
-    let k = random.pick(&[0, 1, 2, 3, 4, 5, 6, end - 1, end, any, any, any]);
-    let word = words[k];
-    let (noise, bit) = (random.number(), 1 << random.below(8));
-    words[k] = random.pick(&[
-        word ^ 0x100,
-        word ^ 0x200,
-        word ^ 0x300,
-        word | 0x400,
-        word | 0x8000,
-        word | noise & 0xFC00,
-        word ^ bit,
-        word ^ 3,
-        word & 0xFF,
-        noise & 0x3FF,
-        noise,
-        0,
-        0x3FF,
-        0x3FC,
-    ]);
-    "word"
-}
-
-/// Also the "errors that look right": "Giving CS the parity of its own byte" and "Summing bytes".
-fn wrong_checksum(random: &mut Random, draft: &mut Draft) -> &'static str {
-    let words = match chosen(random, draft).filter(|words| words.len() >= 7) {
-        Some(words) => words,
-        None => return "CS",
-    };
-    let end = words.len() - 1;
-    let cs = words[end];
-    let of_bytes: u16 = words[3..end].iter().map(|word| word & 0xFF).sum();
-    words[end] = random.pick(&[
-        parity_word(cs as u8),
-        with_bit_9(of_bytes & 0x1FF),
-        with_bit_9(of_bytes & 0xFF),
-        cs ^ 0x100,
-        cs ^ 0x200,
-        cs ^ 0x300,
-        cs ^ 0x400,
-        with_bit_9((cs + 1) & 0x1FF),
-        0,
-    ]);
-    "CS"
-}
-
-fn wrong_dc(random: &mut Random, draft: &mut Draft) -> &'static str {
-    let words = match chosen(random, draft).filter(|words| words.len() >= 7) {
-        Some(words) => words,
-        None => return "DC",
-    };
-    let (dc, any) = (words[5] as u8, random.byte());
-    let other = random.pick(&[dc.wrapping_add(1), dc.wrapping_sub(1), 0, 255, any]);
-    words[5] = parity_word(other);
-    if random.chance(30) {
-        let any = random.below(words.len());
-        words[any] ^= 0x100;
-    }
-    "DC"
-}
-
-/// Ends section C inside the last packet, with the count right; now and then with a further fault before the cut.
-fn cut_packet(random: &mut Random, draft: &mut Draft) -> &'static str {
-    let words = match draft.packets.last_mut() {
-        Some(words) => words,
-        None => return "last packet cut",
-    };
-    let any = random.below(words.len() + 1);
-    words.truncate(random.pick(&[words.len().saturating_sub(1), 6, 7, 3, 1, any]));
-    if random.chance(30) && words.len() > 3 {
-        let any = random.between(3, words.len() - 1);
-        words[any] ^= 0x100;
-    }
-    "last packet cut"
-}
-
-/// Words behind the last packet, with the count right: the start of a packet, or a whole one without a location.
-fn words_added(random: &mut Random, draft: &mut Draft, system: &System) -> &'static str {
-    let dc = random.below(5);
-    let mut added = words(&packet(random, system.last_line, dc));
-    if random.chance(60) {
-        added.truncate(random.between(1, 8));
-    }
-    draft.packets.push(added);
-    "words added"
-}
-
-fn locations_differ(random: &mut Random, draft: &mut Draft) -> &'static str {
-    match random.below(3) {
-        0 => drop(draft.locations.pop()),
-        1 => draft.locations.push([random.pick(&[0, 9, 65_535]), random.pick(&[0, 3, 4])]),
-        _ => draft.locations.clear(),
-    }
-    "locations and packets differ"
-}
-
-/// Sheets of up to 65,535 locations and 65,535 words, and lengths that are right in 16 bits only.
-fn huge(random: &mut Random, system: &System, packing: u64) -> Call {
-    let (count, dc) = random.pick(&[(9362, 0), (512, 121), (512, 120), (250, 255), (600, 0), (3, 2)]);
-    let packets: Vec<Packet> = (0..count).map(|_| packet(random, system.last_line, dc)).collect();
-    let area = random.background(system.area_bytes());
-    let mut draft = Draft::of(system, &packets, packing, area);
-    match random.below(5) {
-        0 => draft.locations.truncate(random.pick(&[511, 512, 513])),
-        1 => draft.locations.resize(random.pick(&[513, 514, 32_768, 65_535]), [9, 0]),
-        2 => draft.behind = vec![0; 65_536],
-        3 => draft.count_p_off = 32_768,
-        _ => {}
-    }
-    if random.chance(40) {
-        put_fault(random, &mut draft, system);
-    }
-    draft.call()
-}
-
-/// Sheets of a few numbers, such as a count may be.
-fn few_numbers(random: &mut Random, packing: u64) -> Call {
-    let sheet = (0..random.below(8)).map(|k| if k == 0 { 1 } else { random.pick(&[0, 0, 0, 1, 1, 2, 3, 513, 65_535]) }).collect();
-    Call::Lay { sheet, packing, area: vec![0x00; random.pick(&[9_600, 11_520])] }
+fn a_few_numbers(random: &mut Random, packing: u64) -> Call {
+    Call::Lay { sheet: few_numbers(random), packing, area: vec![0x00; random.pick(&[9_600, 11_520])] }
 }

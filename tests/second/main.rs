@@ -1,10 +1,14 @@
-//! Compares libvanc with a second implementation of document 01, on cases made by chance.
+//! Compares libvanc with a second implementation of document 01 and request A1, on cases made by chance.
 //!
 //! second SEED CASES COMMAND [ARG..]         asks COMMAND (answer.c) CASES cases; exits with 1 on a mismatch or a number never met
 //! second --case SEED CASE COMMAND [ARG..]   makes one case again and shows it
 
 mod asker;
 mod cases;
+mod element;
+mod element_faults;
+mod element_read_cases;
+mod element_write_cases;
 #[cfg(test)]
 mod figures;
 mod lay_cases;
@@ -14,9 +18,11 @@ mod packet;
 mod random;
 mod read_cases;
 mod rules;
+mod sheets;
 mod show;
 mod shrink;
 mod smaller;
+mod smaller_element;
 mod string_faults;
 mod tally;
 mod walk_cases;

@@ -229,10 +229,13 @@ fn damage_byte(random: &mut Random, area: &mut [u8], places: &[usize], used: usi
     };
 }
 
-/// Buffers of noise: exact, one or more numbers too short or too long, very short, or with room for every frame.
 fn buffer(random: &mut Random, system: u64, area: &[u8], made_from: usize) -> Vec<u16> {
     let back = read(system, area, &[0; MOST_NUMBERS]);
-    let exact = if back.number == 0 { back.numbers as usize } else { made_from };
+    buffer_near(random, if back.number == 0 { back.numbers as usize } else { made_from }, MOST_NUMBERS)
+}
+
+/// Buffers of noise for a sheet: exact, one or more numbers too short or too long, very short, or with room for every sheet.
+pub fn buffer_near(random: &mut Random, exact: usize, most: usize) -> Vec<u16> {
     let longer = exact + random.between(1, 20);
     let length = match random.weighted(&[45, 12, 18, 5, 3, 5, 4, 8]) {
         0 => exact,
@@ -242,7 +245,7 @@ fn buffer(random: &mut Random, system: u64, area: &[u8], made_from: usize) -> Ve
         4 => 0,
         5 => random.pick(&[3, 4, 5]),
         6 => random.below(200),
-        _ => MOST_NUMBERS,
+        _ => most,
     };
     (0..length).map(|_| random.number()).collect()
 }

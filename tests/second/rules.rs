@@ -29,9 +29,9 @@ pub struct Step {
 }
 
 /// A refusal's number and place.
-type Refusal = (u64, u64);
+pub type Refusal = (u64, u64);
 
-fn refuse_if(fault: bool, number: u64, place: usize) -> Result<(), Refusal> {
+pub fn refuse_if(fault: bool, number: u64, place: usize) -> Result<(), Refusal> {
     if fault {
         Err((number, place as u64))
     } else {
@@ -101,17 +101,7 @@ fn laying(sheet: &[u16], packing: u64, area: &[u8]) -> Result<Laid, Refusal> {
     let sections = sections(sheet).ok_or((2, 0))?;
     let system = system(sections.system as u64).ok_or((3, 0))?;
     refuse_if(area.len() != system.area_bytes(), 4, 0)?;
-    let locations: Vec<(u16, u16)> = sections.locations.chunks(2).map(|pair| (pair[0], pair[1])).collect();
-    refuse_if(locations.len() > MOST_PACKETS, 5, 0)?;
-    for (k, &(line, flags)) in locations.iter().enumerate() {
-        refuse_if(line > system.last_line || flags > 3, 6, k)?;
-    }
-    let packets = packets_of_words(sections.words)?;
-    refuse_if(packets.len() != locations.len(), 11, 0)?;
-    let mut dancs = Vec::new();
-    for (bytes, (line, flags)) in packets.into_iter().zip(locations) {
-        dancs.push(danc(&Packet { line, flags, bytes }));
-    }
+    let dancs: Vec<Vec<u8>> = packets_of_sections(&sections, &system)?.iter().map(danc).collect();
     let (blocks, string) = (system.blocks(), dancs.concat());
     // "12: over the packs (packing 1) or string bytes (packing 2)"
     let used = if packing == 1 { packs_of_five(&dancs).len() } else { string.len() };
@@ -124,6 +114,26 @@ fn laying(sheet: &[u16], packing: u64, area: &[u8]) -> Result<Laid, Refusal> {
         bytes: string.len() as u64,
         area: area_with(area, &blocks, &packs.concat()),
     })
+}
+
+/// The system and the packets of a sheet. "The lister [..] makes the tests 2, 3, 5 to 11".
+pub fn listed(sheet: &[u16]) -> Result<(System, Vec<Packet>), Refusal> {
+    let sections = sections(sheet).ok_or((2, 0))?;
+    let system = system(sections.system as u64).ok_or((3, 0))?;
+    let packets = packets_of_sections(&sections, &system)?;
+    Ok((system, packets))
+}
+
+/// The tests 5 to 11.
+fn packets_of_sections(sections: &Sections, system: &System) -> Result<Vec<Packet>, Refusal> {
+    let locations: Vec<(u16, u16)> = sections.locations.chunks(2).map(|pair| (pair[0], pair[1])).collect();
+    refuse_if(locations.len() > MOST_PACKETS, 5, 0)?;
+    for (k, &(line, flags)) in locations.iter().enumerate() {
+        refuse_if(line > system.last_line || flags > 3, 6, k)?;
+    }
+    let packets = packets_of_words(sections.words)?;
+    refuse_if(packets.len() != locations.len(), 11, 0)?;
+    Ok(packets.into_iter().zip(locations).map(|(bytes, (line, flags))| Packet { line, flags, bytes }).collect())
 }
 
 /// A sheet's system and the numbers of sections B and C, without their counts.

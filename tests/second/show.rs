@@ -1,9 +1,18 @@
 //! Calls and answers as people read them.
 
-use crate::cases::{Answer, Call, NAMES};
+use std::fmt::UpperHex;
 
-const FIELDS: [&[&str]; 3] =
-    [&["number", "place", "packs", "bytes"], &["number", "place", "packing", "packets", "numbers"], &["number", "place", "length"]];
+use crate::cases::{Answer, Call, CALLS, NAMES};
+use crate::smaller_element::structure_length;
+use crate::tally::NUMBERS;
+
+const FIELDS: [&[&str]; CALLS] = [
+    &["number", "place", "packs", "bytes"],
+    &["number", "place", "packing", "packets", "numbers"],
+    &["number", "place", "length"],
+    &["number", "place", "packets", "bytes"],
+    &["number", "place", "packets", "numbers"],
+];
 
 /// What a call is given, each part in at most `most` rows.
 pub fn show_call(call: &Call, most: usize) {
@@ -27,6 +36,20 @@ pub fn show_call(call: &Call, most: usize) {
             println!("  string of {} bytes, hex:", string.len());
             show_rows(&string.chunks(32).map(hex_bytes).collect::<Vec<_>>(), most);
         }
+        Call::MxfWrite { sheet, fi, element } => {
+            println!("  mxf write, FI {}", u8::from(*fi));
+            println!("  sheet of {} numbers, hex:", sheet.len());
+            show_rows(&sheet_rows(sheet), most);
+            println!("  element buffer of {} bytes, hex:", element.len());
+            show_rows(&element.chunks(32).map(hex_bytes).collect::<Vec<_>>(), most);
+        }
+        Call::MxfRead { system, fi, element, buffer } => {
+            println!("  mxf read, system {system}, FI {}", u8::from(*fi));
+            println!("  element of {} bytes, hex, by offset:", element.len());
+            show_rows(&element_rows(element), most);
+            println!("  sheet buffer of {} numbers, hex:", buffer.len());
+            show_rows(&buffer.chunks(32).map(hex_numbers).collect::<Vec<_>>(), most);
+        }
     }
 }
 
@@ -43,16 +66,20 @@ fn hex_bytes(bytes: &[u8]) -> String {
     bytes.iter().map(|byte| format!("{byte:02X}")).collect::<Vec<_>>().join(" ")
 }
 
-/// Numbers in hex, more than three equal ones in a row as one and how many.
 fn hex_numbers(numbers: &[u16]) -> String {
+    hex_runs(numbers, 1)
+}
+
+/// Numbers or bytes in hex of so many digits or more, more than three equal ones in a row as one and how many.
+fn hex_runs<T: PartialEq + UpperHex>(numbers: &[T], digits: usize) -> String {
     let mut shown = Vec::new();
     let mut left = numbers;
     while let Some(first) = left.first() {
         let equal = left.iter().take_while(|&number| number == first).count();
         if equal > 3 {
-            shown.push(format!("{first:X} ({equal} times)"));
+            shown.push(format!("{first:0digits$X} ({equal} times)"));
         } else {
-            shown.extend(vec![format!("{first:X}"); equal]);
+            shown.extend(vec![format!("{first:0digits$X}"); equal]);
         }
         left = &left[equal..];
     }
@@ -92,6 +119,24 @@ fn area_rows(area: &[u8]) -> Vec<String> {
     rows
 }
 
+/// The element in rows: key, length, N, and a row for each structure, as far as the array counts lead.
+fn element_rows(element: &[u8]) -> Vec<String> {
+    let mut rows = Vec::new();
+    let mut at = 0;
+    for length in [16, 4, 2] {
+        rows.push((at, length));
+        at += length;
+    }
+    while at < element.len() {
+        let length = structure_length(&element[at..]);
+        rows.push((at, length));
+        at += length;
+    }
+    let starts_inside = |&(at, _): &(usize, usize)| at < element.len();
+    rows.retain(starts_inside);
+    rows.into_iter().map(|(at, length)| format!("{at:>6}: {}", hex_runs(&element[at..(at + length).min(element.len())], 2))).collect()
+}
+
 pub fn show_answer(title: &str, call: &Call, answer: &Option<Answer>) {
     let answer = match answer {
         Some(answer) => answer,
@@ -106,9 +151,9 @@ pub fn show_answer(title: &str, call: &Call, answer: &Option<Answer>) {
 
 /// Where the lent buffers differ after the call, the first of it.
 pub fn show_difference(expected: &Answer, given: &Answer) {
-    let areas = expected.area.iter().zip(&given.area).map(|(&a, &b)| (a as u16, b as u16));
-    let buffers = expected.buffer.iter().zip(&given.buffer).map(|(&a, &b)| (a, b));
-    let pairs: Vec<(u16, u16)> = areas.chain(buffers).collect();
+    let bytes = expected.bytes.iter().zip(&given.bytes).map(|(&a, &b)| (a as u16, b as u16));
+    let numbers = expected.buffer.iter().zip(&given.buffer).map(|(&a, &b)| (a, b));
+    let pairs: Vec<(u16, u16)> = bytes.chain(numbers).collect();
     match pairs.iter().position(|(a, b)| a != b) {
         Some(at) => {
             let count = pairs.iter().filter(|(a, b)| a != b).count();
@@ -122,11 +167,15 @@ pub fn show_difference(expected: &Answer, given: &Answer) {
 }
 
 /// How often each number was met in each call, and which cannot be.
-pub fn show_numbers(met: &[[u64; 18]; 3], cannot: impl Fn(usize, usize) -> bool) {
-    println!("{:>8} {:>10} {:>10} {:>10}", "number", NAMES[0], NAMES[1], NAMES[2]);
-    for number in 0..18 {
+pub fn show_numbers(met: &[[u64; NUMBERS]; CALLS], cannot: impl Fn(usize, usize) -> bool) {
+    let row = |first: &str, cells: Vec<String>| {
+        let cells: Vec<String> = cells.iter().map(|cell| format!("{cell:>10}")).collect();
+        println!("{first:>8} {}", cells.join(" "));
+    };
+    row("number", NAMES.iter().map(|name| name.to_string()).collect());
+    for number in 0..NUMBERS {
         let cell =
             |call: usize| if cannot(call, number) && met[call][number] == 0 { "-".to_string() } else { met[call][number].to_string() };
-        println!("{number:>8} {:>10} {:>10} {:>10}", cell(0), cell(1), cell(2));
+        row(&number.to_string(), (0..CALLS).map(cell).collect());
     }
 }

@@ -6,6 +6,7 @@ use std::time::{Duration, Instant};
 use crate::asker::Asker;
 use crate::cases::Call;
 use crate::smaller::*;
+use crate::smaller_element::*;
 
 /// Tries in one sweep.
 const MOST_TRIES: usize = 2_000;
@@ -18,7 +19,7 @@ type Count = fn(&Call) -> usize;
 type Change = fn(&Call, usize, usize) -> Option<Call>;
 
 /// What is tried in each round, in this order.
-const SWEEPS: [(Count, Change); 18] = [
+const SWEEPS: [(Count, Change); 23] = [
     (packets, without_packets),
     (packets, with_user_words_halved),
     (packets, with_one_user_word_less),
@@ -36,6 +37,11 @@ const SWEEPS: [(Count, Change); 18] = [
     (buffer_numbers, with_zeros_in_buffer),
     (walked_bytes, without_walked_bytes),
     (walked_bytes, with_zeros_in_string),
+    (structures, without_structures),
+    (element_bytes, without_element_bytes),
+    (element_bytes, with_zeros_in_element),
+    (target_bytes, without_target_bytes),
+    (target_bytes, with_zeros_in_target),
     (settings, with_plain_setting),
 ];
 

@@ -3,23 +3,25 @@
 use std::ops::Range;
 
 use crate::cases::Call;
+use crate::element;
 use crate::packet;
 use crate::rules::{area_with, lay, long_packs, read, system};
 
-/// A measure of how much a call is given that matters: numbers of the sheet, user bytes up to the fill, or bytes of the string.
+/// A measure of how much a call is given that matters: numbers of the sheet, user bytes up to the fill, bytes of the string or element.
 pub fn size(call: &Call) -> usize {
     match call {
-        Call::Lay { sheet, .. } => sheet.len(),
+        Call::Lay { sheet, .. } | Call::MxfWrite { sheet, .. } => sheet.len(),
         Call::Read { .. } => 5 * area_packs(call),
         Call::Walk { string, .. } => string.len(),
+        Call::MxfRead { element, .. } => element.len(),
     }
 }
 
-fn run(start: usize, count: usize, of: usize) -> Range<usize> {
+pub fn run(start: usize, count: usize, of: usize) -> Range<usize> {
     start.min(of)..(start + count).min(of)
 }
 
-fn without<T: Clone>(from: &[T], start: usize, count: usize) -> Vec<T> {
+pub fn without<T: Clone>(from: &[T], start: usize, count: usize) -> Vec<T> {
     let mut left = from.to_vec();
     left.drain(run(start, count, from.len()));
     left
@@ -27,22 +29,31 @@ fn without<T: Clone>(from: &[T], start: usize, count: usize) -> Vec<T> {
 
 // Sheets.
 
-/// The sheet that is laid, or that an area gives.
+/// Room for every element and for the sheet of every element.
+const MOST_OF_ELEMENT: usize = 71_000;
+
+/// The sheet that is laid or written to an element, or that an area or element gives.
 fn sheet(call: &Call) -> Option<Vec<u16>> {
     match call {
-        Call::Lay { sheet, .. } => Some(sheet.clone()),
+        Call::Lay { sheet, .. } | Call::MxfWrite { sheet, .. } => Some(sheet.clone()),
         Call::Read { system, area, .. } => {
             let back = read(*system, area, &[0; 11_000]);
+            (back.packets > 0).then(|| back.buffer[..back.numbers as usize].to_vec())
+        }
+        Call::MxfRead { system, fi, element, .. } => {
+            let back = element::read(*system, *fi, element, &[0; MOST_OF_ELEMENT]);
             (back.packets > 0).then(|| back.buffer[..back.numbers as usize].to_vec())
         }
         Call::Walk { .. } => None,
     }
 }
 
-/// The call with another sheet to lay, or with an area that gives this sheet and has the packing that it had.
+/// The call with another sheet to lay or to write, or with an area that gives this sheet and has the packing that it had, or with an
+/// element that gives this sheet, without padding.
 fn with_sheet(call: &Call, sheet: Vec<u16>) -> Option<Call> {
     match call {
         Call::Lay { packing, area, .. } => Some(Call::Lay { sheet, packing: *packing, area: area.clone() }),
+        Call::MxfWrite { fi, element, .. } => Some(Call::MxfWrite { sheet, fi: *fi, element: element.clone() }),
         Call::Read { system, area, .. } => {
             let packing = read(*system, area, &[0; 11_000]).packing;
             let laid = lay(&sheet, packing, area);
@@ -50,6 +61,14 @@ fn with_sheet(call: &Call, sheet: Vec<u16>) -> Option<Call> {
                 return None;
             }
             with_area(call, laid.area)
+        }
+        Call::MxfRead { system, fi, buffer, .. } => {
+            let written = element::write(&sheet, *fi, &[0; MOST_OF_ELEMENT]);
+            if written.number != 0 {
+                return None;
+            }
+            let element = written.element[..written.bytes as usize].to_vec();
+            Some(Call::MxfRead { system: *system, fi: *fi, element, buffer: buffer.clone() })
         }
         Call::Walk { .. } => None,
     }
@@ -101,10 +120,10 @@ pub fn without_packets(call: &Call, start: usize, count: usize) -> Option<Call> 
     with_parts(call, Parts { locations, packets: without(&parts.packets, start, count), ..parts })
 }
 
-/// Words of a sheet that is laid: those of an area do not make sound packets when some are missing.
+/// Words of a sheet that is given: those of an area or element do not make sound packets when some are missing.
 pub fn words(call: &Call) -> usize {
     match call {
-        Call::Lay { .. } => parts(call).map_or(0, |parts| parts.packets.concat().len()),
+        Call::Lay { .. } | Call::MxfWrite { .. } => parts(call).map_or(0, |parts| parts.packets.concat().len()),
         _ => 0,
     }
 }
@@ -117,7 +136,7 @@ pub fn without_words(call: &Call, start: usize, count: usize) -> Option<Call> {
 
 pub fn locations(call: &Call) -> usize {
     match call {
-        Call::Lay { .. } => parts(call).map_or(0, |parts| parts.locations.len()),
+        Call::Lay { .. } | Call::MxfWrite { .. } => parts(call).map_or(0, |parts| parts.locations.len()),
         _ => 0,
     }
 }
@@ -131,17 +150,17 @@ pub fn location_numbers(call: &Call) -> usize {
     parts(call).map_or(0, |parts| 2 * parts.locations.len())
 }
 
-/// All numbers of a sheet that is laid, whatever its counts say.
+/// All numbers of a sheet that is given, whatever its counts say.
 pub fn numbers(call: &Call) -> usize {
     match call {
-        Call::Lay { sheet, .. } => sheet.len(),
+        Call::Lay { sheet, .. } | Call::MxfWrite { sheet, .. } => sheet.len(),
         _ => 0,
     }
 }
 
 pub fn without_numbers(call: &Call, start: usize, count: usize) -> Option<Call> {
     let sheet = match call {
-        Call::Lay { sheet, .. } => sheet,
+        Call::Lay { sheet, .. } | Call::MxfWrite { sheet, .. } => sheet,
         _ => return None,
     };
     with_sheet(call, without(sheet, start, count))
@@ -197,7 +216,7 @@ pub fn with_plain_packets(call: &Call, start: usize, count: usize) -> Option<Cal
 fn area(call: &Call) -> &[u8] {
     match call {
         Call::Lay { area, .. } | Call::Read { area, .. } => area,
-        Call::Walk { .. } => &[],
+        _ => &[],
     }
 }
 
@@ -205,7 +224,7 @@ fn with_area(call: &Call, area: Vec<u8>) -> Option<Call> {
     match call {
         Call::Lay { sheet, packing, .. } => Some(Call::Lay { sheet: sheet.clone(), packing: *packing, area }),
         Call::Read { system, buffer, .. } => Some(Call::Read { system: *system, area, buffer: buffer.clone() }),
-        Call::Walk { .. } => None,
+        _ => None,
     }
 }
 
@@ -310,35 +329,32 @@ pub fn without_string_packets(call: &Call, start: usize, count: usize) -> Option
 
 // Sheet buffers.
 
-pub fn buffer_numbers(call: &Call) -> usize {
+fn buffer(call: &Call) -> &[u16] {
     match call {
-        Call::Read { buffer, .. } => buffer.len(),
-        _ => 0,
+        Call::Read { buffer, .. } | Call::MxfRead { buffer, .. } => buffer,
+        _ => &[],
     }
 }
 
-fn with_buffer(call: &Call, buffer: Vec<u16>) -> Option<Call> {
-    let (system, area) = match call {
-        Call::Read { system, area, .. } => (system, area),
+pub fn buffer_numbers(call: &Call) -> usize {
+    buffer(call).len()
+}
+
+fn with_buffer(call: &Call, new: Vec<u16>) -> Option<Call> {
+    let mut call = call.clone();
+    match &mut call {
+        Call::Read { buffer, .. } | Call::MxfRead { buffer, .. } => *buffer = new,
         _ => return None,
-    };
-    Some(Call::Read { system: *system, area: area.clone(), buffer })
+    }
+    Some(call)
 }
 
 pub fn without_buffer_numbers(call: &Call, start: usize, count: usize) -> Option<Call> {
-    let buffer = match call {
-        Call::Read { buffer, .. } => buffer,
-        _ => return None,
-    };
-    with_buffer(call, without(buffer, start, count))
+    with_buffer(call, without(buffer(call), start, count))
 }
 
 pub fn with_zeros_in_buffer(call: &Call, start: usize, count: usize) -> Option<Call> {
-    let buffer = match call {
-        Call::Read { buffer, .. } => buffer,
-        _ => return None,
-    };
-    let mut buffer = buffer.clone();
+    let mut buffer = buffer(call).to_vec();
     let run = run(start, count, buffer.len());
     buffer[run].fill(0);
     with_buffer(call, buffer)
@@ -375,7 +391,7 @@ pub fn with_zeros_in_string(call: &Call, start: usize, count: usize) -> Option<C
     Some(Call::Walk { system: *system, string, place: *place })
 }
 
-// Systems, packings and places.
+// Systems, packings, places and FI.
 
 /// The plainer values of packing or system, and of the place.
 const PLAIN: [u64; 4] = [1, 2, 3, 0];
@@ -383,6 +399,7 @@ const PLAIN: [u64; 4] = [1, 2, 3, 0];
 pub fn settings(call: &Call) -> usize {
     match call {
         Call::Walk { .. } => PLAIN.len() + 2,
+        Call::MxfWrite { .. } | Call::MxfRead { .. } => PLAIN.len() + 1,
         _ => PLAIN.len(),
     }
 }
@@ -398,7 +415,12 @@ pub fn with_plain_setting(call: &Call, which: usize, count: usize) -> Option<Cal
     match &mut call {
         Call::Walk { place, .. } if which == PLAIN.len() => *place /= 2,
         Call::Walk { place, .. } if which > PLAIN.len() => *place = place.saturating_sub(1),
-        Call::Lay { packing: value, .. } | Call::Read { system: value, .. } | Call::Walk { system: value, .. } => {
+        Call::MxfWrite { fi, .. } | Call::MxfRead { fi, .. } if which == PLAIN.len() => *fi = false,
+        Call::MxfWrite { .. } => return None,
+        Call::Lay { packing: value, .. }
+        | Call::Read { system: value, .. }
+        | Call::Walk { system: value, .. }
+        | Call::MxfRead { system: value, .. } => {
             *value = plainer(*value)?;
         }
     }

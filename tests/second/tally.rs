@@ -2,19 +2,33 @@
 
 use std::collections::BTreeMap;
 
-use crate::cases::NAMES;
+use crate::cases::{CALLS, LAY, MXF_READ, MXF_WRITE, NAMES, READ, WALK};
 use crate::show::show_numbers;
 
+/// 0, and the refusals 1 to 19.
+pub const NUMBERS: usize = 20;
+
 /// Numbers that a call cannot give, and why.
-const CANNOT: [(usize, &[usize], &str); 8] = [
-    (0, &[13, 14, 15, 16], "laying does not look at packs or strings that are there already"),
-    (0, &[17], "laying writes no sheet"),
-    (1, &[1], "reading finds the packing by itself; a wrong one is 13"),
-    (1, &[2, 6, 7, 8, 9, 10, 11], "these are tests of a sheet, and reading is given none"),
-    (1, &[12], "what was read had room"),
-    (2, &[1, 4, 13], "the walker is given a string, neither packing nor area nor packs"),
-    (2, &[2, 6, 7, 8, 9, 10, 11, 12, 17], "the walker has no sheet and lays nothing"),
-    (2, &[5], "the walker has no limit of packets"),
+const CANNOT: [(usize, &[usize], &str); 15] = [
+    (LAY, &[13, 14, 15, 16], "laying does not look at packs or strings that are there already"),
+    (LAY, &[17], "laying writes neither a sheet nor an element"),
+    (LAY, &[18, 19], "these are tests of an element's packets and of an element"),
+    (READ, &[1], "reading finds the packing by itself; a wrong one is 13"),
+    (READ, &[2, 6, 7, 8, 9, 10, 11], "these are tests of a sheet, and reading is given none"),
+    (READ, &[12], "what was read had room"),
+    (READ, &[18, 19], "reading is given an area, and packets without a line are sound there"),
+    (WALK, &[1, 4, 13], "the walker is given a string, neither packing nor area nor packs"),
+    (WALK, &[2, 6, 7, 8, 9, 10, 11, 12, 17, 18, 19], "the walker has no sheet, no element, and lays nothing"),
+    (WALK, &[5], "the walker has no limit of packets"),
+    (
+        MXF_WRITE,
+        &[1, 4, 12, 13, 14, 15, 16],
+        "an element is written without packing, area or packs, and has room for every sheet's packets",
+    ),
+    (MXF_WRITE, &[19], "the element buffer is only written"),
+    (MXF_READ, &[1, 4, 12, 13, 14, 15, 16], "an element has neither packing nor area nor packs; its lines are a matter of 19"),
+    (MXF_READ, &[2, 6, 7, 8, 9, 10, 11], "these are tests of a sheet, and reading is given none"),
+    (MXF_READ, &[18], "an element's packets have lines; line 0 is 19"),
 ];
 
 fn cannot(call: usize, number: usize) -> bool {
@@ -23,13 +37,13 @@ fn cannot(call: usize, number: usize) -> bool {
 
 /// Counts of a run: numbers by call, and kinds of cases.
 pub struct Tally {
-    met: [[u64; 18]; 3],
+    met: [[u64; NUMBERS]; CALLS],
     kinds: BTreeMap<String, u64>,
 }
 
 impl Tally {
     pub fn new() -> Tally {
-        Tally { met: [[0; 18]; 3], kinds: BTreeMap::new() }
+        Tally { met: [[0; NUMBERS]; CALLS], kinds: BTreeMap::new() }
     }
 
     pub fn count(&mut self, call: usize, number: u64, kind: String) {
@@ -43,7 +57,7 @@ impl Tally {
 
     /// Numbers that can be met in a call and were not.
     pub fn missed(&self) -> Vec<(usize, usize)> {
-        let all = (0..3).flat_map(|call| (0..18).map(move |number| (call, number)));
+        let all = (0..CALLS).flat_map(|call| (0..NUMBERS).map(move |number| (call, number)));
         all.filter(|&(call, number)| self.met[call][number] == 0 && !cannot(call, number)).collect()
     }
 
@@ -54,7 +68,7 @@ impl Tally {
         }
         println!();
         let of = |call: usize| self.met[call].iter().sum::<u64>();
-        println!("{} cases of lay, {} of read, {} of walk", of(0), of(1), of(2));
+        println!("cases: {}", (0..CALLS).map(|call| format!("{} of {}", of(call), NAMES[call])).collect::<Vec<_>>().join(", "));
         show_numbers(&self.met, cannot);
         println!("cannot be met (-):");
         for (call, numbers, why) in CANNOT {

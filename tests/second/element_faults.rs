@@ -1,0 +1,255 @@
+//! Padding, and faults in elements: in a structure, or in the whole.
+
+use crate::element::{HEAD, KEY};
+use crate::random::Random;
+use crate::rules::System;
+
+/// Where a structure's fields start, and its array.
+const LINE: usize = 0;
+const WRAPPING: usize = 2;
+const CODING: usize = 3;
+const SAMPLES: usize = 4;
+const COUNT: usize = 6;
+const ARRAY_ELEMENT: usize = 10;
+const ARRAY: usize = 14;
+
+fn two(bytes: &[u8], at: usize) -> u16 {
+    u16::from_be_bytes([bytes[at], bytes[at + 1]])
+}
+
+fn put_two(bytes: &mut [u8], at: usize, number: u16) {
+    bytes[at..at + 2].copy_from_slice(&number.to_be_bytes());
+}
+
+fn four(bytes: &[u8], at: usize) -> u32 {
+    u32::from_be_bytes([bytes[at], bytes[at + 1], bytes[at + 2], bytes[at + 3]])
+}
+
+fn put_four(bytes: &mut [u8], at: usize, number: u32) {
+    bytes[at..at + 4].copy_from_slice(&number.to_be_bytes());
+}
+
+// Padding.
+
+/// Puts padding behind each structure's samples, and names how. ST 436-1, annex B: up to three bytes to some multiple of four, but also
+/// none, and "large padding space"; it "should have a value of zero", which is no rule.
+pub fn pad(random: &mut Random, structures: &mut [Vec<u8>]) -> &'static str {
+    let (name, most) = match random.weighted(&[30, 25, 20, 20, 4, 1]) {
+        _ if structures.is_empty() => return "without padding",
+        0 => return "without padding",
+        1 => ("padded to fours", 3),
+        2 => ("a few bytes of padding", 3),
+        3 => ("padding", 40),
+        4 => ("long padding", 1_000),
+        _ => ("long padding", 70_000),
+    };
+    let only = random.below(structures.len() + 1);
+    let is_long = most > 40;
+    for (k, structure) in structures.iter_mut().enumerate() {
+        // Of many structures one has the long padding.
+        let length = match most {
+            3 if name == "padded to fours" => 3 - (structure.len() + 3) % 4,
+            _ if is_long && k != only => 0,
+            _ => random.between(0, most),
+        };
+        let padding = if random.chance(40) { vec![0x00; length] } else { random.background(length) };
+        structure.extend(padding);
+        let count = (structure.len() - ARRAY) as u32;
+        put_four(structure, COUNT, count);
+    }
+    name
+}
+
+// Faults in a structure.
+
+/// Puts one fault into one structure, and names it. Some leave it sound, as a line that is the last. `structures` is not empty.
+pub fn put_structure_fault(random: &mut Random, structures: &mut [Vec<u8>], system: &System) -> &'static str {
+    let k = random.index(structures.len());
+    let length_of = |structures: &[Vec<u8>]| structures.iter().map(Vec::len).sum::<usize>();
+    let (before, behind) = (HEAD + length_of(&structures[..k]), length_of(&structures[k + 1..]));
+    let structure = &mut structures[k];
+    // A fault before this one may have cut it.
+    if structure.len() < ARRAY + 3 {
+        return "structure cut";
+    }
+    match random.weighted(&[14, 8, 8, 16, 24, 8, 12, 6, 4]) {
+        0 => {
+            let (line, last) = (two(structure, LINE), system.last_line);
+            put_two(
+                structure,
+                LINE,
+                random.pick(&[0, 0, 1, last, last + 1, last + 1, 750, 751, 1125, 1126, 2048 + 9, line | 0x8000, 65_535]),
+            );
+            "line"
+        }
+        1 => {
+            let wrong = random.pick(&[0x00, 0x01, 0x02, 0x03, 0x04, 0x05, 0x11, 0x12, 0x13, 0x14, 0x81, 0xFF]);
+            put(structure, WRAPPING, wrong, "wrapping")
+        }
+        2 => {
+            let wrong = random.pick(&[0, 1, 3, 3, 4, 5, 6, 6, 7, 8, 9, 10, 11, 12, 0x84, 0x85, 0xFF]);
+            put(structure, CODING, wrong, "coding")
+        }
+        3 => wrong_samples(random, structure),
+        4 => wrong_count(random, structure, before, behind),
+        5 => {
+            put_four(
+                structure,
+                ARRAY_ELEMENT,
+                random.pick(&[0, 2, 3, 255, 256, 257, 1 << 16, 1 << 24, (1 << 16) + 1, (1 << 24) + 1, 1 << 31, u32::MAX]),
+            );
+            "array element length"
+        }
+        6 => {
+            let (dc, any) = (structure[ARRAY + 2], random.byte());
+            put(structure, ARRAY + 2, random.pick(&[dc.wrapping_add(1), dc.wrapping_sub(1), 0, 255, any]), "DC")
+        }
+        7 => {
+            structure.truncate(random.between(0, structure.len() - 1));
+            "structure cut"
+        }
+        _ => {
+            structure.insert(random.below(structure.len()), random.pick(&[0x00, 0xFF, 0x01]));
+            "byte too many"
+        }
+    }
+}
+
+fn put(bytes: &mut [u8], at: usize, byte: u8, name: &'static str) -> &'static str {
+    bytes[at] = byte;
+    name
+}
+
+/// The ends of 3 to 258, about the right count, right in 8 bits only; now and then with the DC that belongs to it.
+fn wrong_samples(random: &mut Random, structure: &mut [u8]) -> &'static str {
+    let samples = two(structure, SAMPLES);
+    let about =
+        random.pick(&[samples.wrapping_add(1), samples.wrapping_sub(1), samples.wrapping_add(256), samples ^ 0x100, samples | 0x8000]);
+    let wrong = random.pick(&[0, 1, 2, 2, 3, 4, 257, 258, 259, 259, 260, 65_535, about, about, about]);
+    put_two(structure, SAMPLES, wrong);
+    if random.chance(50) {
+        structure[ARRAY + 2] = wrong.wrapping_sub(3) as u8;
+    }
+    "sample count"
+}
+
+/// About the samples, about the element's end, and near 2^32: also such that the end of the array is right, or before it, in 32 bits.
+fn wrong_count(random: &mut Random, structure: &mut [u8], before: usize, behind: usize) -> &'static str {
+    let (samples, count) = (two(structure, SAMPLES) as u32, four(structure, COUNT));
+    // What an array to the element's end has, and the distance from the array back to the element's start.
+    let to_end = (structure.len() - ARRAY + behind) as u32;
+    let back = (before + ARRAY) as u32;
+    let near = random.pick(&[
+        u32::MAX,
+        u32::MAX - 3,
+        u32::MAX - 7,
+        u32::MAX - 8,
+        1 << 31,
+        (1 << 31) - 1,
+        0_u32.wrapping_sub(back),
+        4_u32.wrapping_sub(back),
+    ]);
+    let about_end =
+        random.pick(&[to_end, to_end + 1, to_end + 4, to_end + 5, to_end + 8, to_end.wrapping_sub(1), to_end.wrapping_sub(4)]);
+    let about = random.pick(&[samples.wrapping_sub(1), samples, samples + 1, count.wrapping_add(1), count.wrapping_sub(1), 0, 1]);
+    let high = random.pick(&[1 << 16, 1 << 24, 1 << 31, 255 << 24]);
+    put_four(structure, COUNT, random.pick(&[near, about_end, about_end, about, about, count.wrapping_add(high)]));
+    "array count"
+}
+
+// Faults in the whole.
+
+/// The length field, of the value that is there. It has three bytes.
+pub fn mend_length(element: &mut [u8]) {
+    if element.len() >= 20 {
+        let length = (element.len() - 20) as u32;
+        element[17..20].copy_from_slice(&length.to_be_bytes()[1..]);
+    }
+}
+
+/// Puts one fault into an element, and names it. What changes the length mostly has the length field mended, so that the fault is found
+/// behind it.
+pub fn put_fault(random: &mut Random, element: &mut Vec<u8>) -> &'static str {
+    if element.len() < HEAD {
+        return "element cut";
+    }
+    let mend = random.chance(80);
+    let name = match random.weighted(&[6, 4, 8, 14, 24, 16, 20, 8]) {
+        0 => {
+            let k = random.index(KEY.len());
+            let any = random.byte();
+            element[k] = random.pick(&[element[k] ^ 1, element[k] ^ 0x80, 0x00, 0x7F, any]);
+            return "key";
+        }
+        1 => return put(element, 16, random.pick(&[0x00, 0x03, 0x60, 0x80, 0x82, 0x84, 0x93, 0xFF]), "form of the length"),
+        2 => {
+            wrong_length(random, element);
+            return "length";
+        }
+        3 => {
+            let (n, any) = (two(element, 20), random.number());
+            put_two(
+                element,
+                20,
+                random.pick(&[n.wrapping_add(1), n.wrapping_add(1), n.wrapping_sub(1), n ^ 0x100, 0, 512, 513, 65_535, any]),
+            );
+            "N"
+        }
+        4 => {
+            let any = random.below(element.len());
+            let (head, last) = (random.below(40), random.below(300));
+            element.truncate(random.pick(&[any, head, element.len().saturating_sub(1 + last), element.len() - 1]));
+            "element cut"
+        }
+        5 => {
+            let (any, again) = (random.between(1, 40), random.between(1, element.len() - HEAD + 1));
+            let surplus = match random.below(3) {
+                0 => vec![0x00; random.pick(&[1, 2, 3, 4, any])],
+                1 => random.background(any),
+                // What stands in the element already.
+                _ => element[HEAD..].iter().copied().take(again).collect(),
+            };
+            element.extend(surplus);
+            "surplus bytes"
+        }
+        6 => {
+            let near = random.pick(&[60, usize::MAX]);
+            let k = random.below(element.len().min(near));
+            let (byte, bit, any) = (element[k], 1 << random.below(8), random.byte());
+            element[k] = random.pick(&[byte ^ bit, byte.wrapping_add(1), byte.wrapping_sub(1), 0x00, 0xFF, any]);
+            return "one byte";
+        }
+        _ => {
+            let k = random.between(HEAD - 2, element.len() - 1);
+            if random.chance(50) {
+                element.remove(k);
+            } else {
+                element.insert(k, random.pick(&[0x00, 0x01, 0xFF]));
+            }
+            "byte too many or too few"
+        }
+    };
+    if mend {
+        mend_length(element);
+    }
+    name
+}
+
+/// The length of all ("Overall Length of Element"), of what is behind N, one off, and right in 8 or 16 bits only.
+fn wrong_length(random: &mut Random, element: &mut [u8]) {
+    let right = (element.len() - 20) as u32;
+    let (bit, any) = (1 << random.below(24), random.number() as u32);
+    let wrong = random.pick(&[
+        right + 20,
+        right.wrapping_sub(2),
+        right + 1,
+        right.wrapping_sub(1),
+        right ^ bit,
+        right + 16,
+        right + 4,
+        0,
+        any,
+        0xFF_FFFF,
+    ]);
+    element[17..20].copy_from_slice(&wrong.to_be_bytes()[1..]);
+}

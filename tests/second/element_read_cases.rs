@@ -1,0 +1,168 @@
+//! Cases for reading an element: written by the rules, padded, over the limits, or as they come; and then damaged at every level.
+
+use crate::cases::{how_many, system_and_fi, Call, Case, UNKNOWN};
+use crate::element::{element, read, structure, wrapping, HEAD};
+use crate::element_faults::{mend_length, pad, put_fault, put_structure_fault};
+use crate::lists::{list, packet};
+use crate::packet::Packet;
+use crate::random::Random;
+use crate::read_cases::buffer_near;
+use crate::rules::{System, MOST_PACKETS};
+
+/// Room for the sheet of every element, as vanc.h says.
+const MOST_NUMBERS: usize = 4 + 2 * 512 + 65_535;
+/// The most that a length in three bytes says.
+const LONGEST_VALUE: usize = 0xFF_FFFF;
+
+/// An element, and the length of the sheet that it was made from.
+struct Draft {
+    kind: String,
+    element: Vec<u8>,
+    numbers: usize,
+}
+
+pub fn make(random: &mut Random) -> Case {
+    let (of_frame, fi) = system_and_fi(random);
+    let mut system = of_frame.number;
+    // The longest elements are rare: each is 16 MB.
+    let mut draft = match random.weighted(&[3_200, 240, 200, 240, 120, 3]) {
+        0 => written(random, &of_frame),
+        1 => many(random, &of_frame),
+        2 => words_near_the_limit(random, &of_frame),
+        3 => as_they_come(random, &of_frame),
+        4 => a_few_bytes(random),
+        _ => longest(random, &of_frame),
+    };
+    for _ in 0..random.pick(&[0, 0, 0, 0, 0, 0, 0, 1, 1, 1, 1, 2]) {
+        draft.kind = format!("fault: {}", put_fault(random, &mut draft.element));
+    }
+    if random.chance(7) {
+        draft.kind = "system unknown or another".to_string();
+        let unknown = random.pick(&UNKNOWN);
+        system = random.pick(&[1, 2, 3, unknown, unknown]);
+    }
+    let back = read(system, fi, &draft.element, &vec![0; MOST_NUMBERS]);
+    let exact = if back.number == 0 { back.numbers as usize } else { draft.numbers };
+    let buffer = buffer_near(random, exact, MOST_NUMBERS);
+    Case { kind: format!("mxf read, {}", draft.kind), call: Call::MxfRead { system, fi, element: draft.element, buffer } }
+}
+
+/// Lines where there are none: an element has one for each packet.
+fn with_lines(random: &mut Random, of_frame: &System, packets: &mut [Packet]) {
+    for packet in packets.iter_mut().filter(|packet| packet.line == 0) {
+        packet.line = random.pick(&[1, 9, 255, 256, of_frame.last_line]);
+    }
+}
+
+/// The structures of packets, and the length of their sheet.
+fn structures(of_frame: &System, packets: &[Packet]) -> (Vec<Vec<u8>>, usize) {
+    let words: usize = packets.iter().map(|packet| packet.bytes.len() + 4).sum();
+    (packets.iter().map(|packet| structure(of_frame, packet)).collect(), 4 + 2 * packets.len() + words)
+}
+
+/// A list with padding or without, then perhaps with faults in its structures.
+fn written(random: &mut Random, of_frame: &System) -> Draft {
+    let packing = random.between(1, 2) as u64;
+    let mut list = list(random, of_frame, packing);
+    with_lines(random, of_frame, &mut list.packets);
+    let (mut structures, numbers) = structures(of_frame, &list.packets);
+    let mut kind = format!("{}, {}", how_many(list.packets.len()), pad(random, &mut structures));
+    if !structures.is_empty() {
+        for _ in 0..random.pick(&[0, 0, 0, 0, 0, 0, 1, 1, 1, 1, 2, 3]) {
+            kind = format!("fault: {}", put_structure_fault(random, &mut structures, of_frame));
+        }
+    }
+    Draft { kind, element: element(&structures), numbers }
+}
+
+/// About 512 packets and many more, as many as N can say. Often one of the last has a fault, which comes before 5.
+fn many(random: &mut Random, of_frame: &System) -> Draft {
+    let count = random.pick(&[511, MOST_PACKETS, MOST_PACKETS, MOST_PACKETS + 1, MOST_PACKETS + 1, 600, 1_024, 9_362]);
+    let count = if random.chance(1) { 65_535 } else { count };
+    let mut packets: Vec<Packet> = (0..16).map(|_| packet(random, of_frame.last_line, 0)).collect();
+    with_lines(random, of_frame, &mut packets);
+    let packets: Vec<Packet> = (0..count).map(|k| packets[k % packets.len()].clone()).collect();
+    let (mut structures, numbers) = structures(of_frame, &packets);
+    if random.chance(30) {
+        put_structure_fault(random, &mut structures, of_frame);
+    }
+    Draft { kind: "512 packets and more".to_string(), element: element(&structures), numbers }
+}
+
+/// About 65,535 words: `count` packets, all but the last of one DC. Below 513 packets no sheet has more than 134,144 words.
+fn words_near_the_limit(random: &mut Random, of_frame: &System) -> Draft {
+    let (count, dc, last_dc) = random.pick(&[
+        (512, 121, 120),
+        (512, 121, 121),
+        (251, 255, 28),
+        (251, 255, 29),
+        (251, 255, 27),
+        (300, 255, 255),
+        (501, 255, 94),
+        (512, 255, 255),
+        (513, 121, 0),
+    ]);
+    let mut packets: Vec<Packet> =
+        (1..=count).map(|k| packet(random, of_frame.last_line, if k == count { last_dc } else { dc })).collect();
+    with_lines(random, of_frame, &mut packets);
+    let (mut structures, numbers) = structures(of_frame, &packets);
+    if random.chance(30) {
+        pad(random, &mut structures);
+    }
+    if random.chance(20) {
+        put_structure_fault(random, &mut structures, of_frame);
+    }
+    Draft { kind: "about 65,535 words".to_string(), element: element(&structures), numbers }
+}
+
+/// Structures whose fields have few values, with arrays that may fit.
+fn as_they_come(random: &mut Random, of_frame: &System) -> Draft {
+    let mut structures = Vec::new();
+    for _ in 0..random.below(5) {
+        let sound = random.pick(&[70, 97]);
+        let wrong = |random: &mut Random| !random.chance(sound);
+        let samples = random.pick(&[3, 3, 4, 5, 6]);
+        let mut structure = vec![if wrong(random) { random.pick(&[0, 4, 8]) } else { 0 }, if wrong(random) { 0 } else { 9 }];
+        structure.push(if wrong(random) { random.pick(&[0, 1, 4]) } else { wrapping(of_frame) });
+        structure.push(if wrong(random) { random.pick(&[3, 6, 10]) } else { random.pick(&[4, 5]) });
+        structure.extend([0, if wrong(random) { 2 } else { samples }]);
+        let count = samples + random.pick(&[0, 0, 1, 3]);
+        structure.extend([0, 0, 0, if wrong(random) { count.wrapping_add(random.pick(&[1, 2, 17, 255])) } else { count }]);
+        structure.extend([0, 0, 0, if wrong(random) { 0 } else { 1 }]);
+        structure.extend([0, 0, if wrong(random) { samples } else { samples - 3 }]);
+        structure.resize(14 + count as usize, random.pick(&[0, 1, 4, 9]));
+        structures.push(structure);
+    }
+    Draft { kind: "fields as they come".to_string(), element: element(&structures), numbers: 40 }
+}
+
+/// The empty element, its head cut, or a few bytes behind it.
+fn a_few_bytes(random: &mut Random) -> Draft {
+    let mut element = element(&[]);
+    let few: Vec<u8> = (0..random.below(20)).map(|_| random.pick(&[0, 0, 1, 4, 5, 9])).collect();
+    match random.below(4) {
+        0 => {}
+        1 => element.truncate(random.between(0, HEAD)),
+        _ => {
+            element.extend(few);
+            element[21] = random.pick(&[0, 1, 1, 1, 2]);
+        }
+    }
+    if random.chance(70) {
+        mend_length(&mut element);
+    }
+    Draft { kind: "a few bytes".to_string(), element, numbers: 13 }
+}
+
+/// As long as the length can say, by padding; or one byte longer, or as long as the length says in 24 bits only.
+fn longest(random: &mut Random, of_frame: &System) -> Draft {
+    let mut packets = vec![packet(random, of_frame.last_line, 2)];
+    with_lines(random, of_frame, &mut packets);
+    let (mut structures, numbers) = structures(of_frame, &packets);
+    let short = element(&structures).len() - 20;
+    let length = random.pick(&[LONGEST_VALUE, LONGEST_VALUE, LONGEST_VALUE + 1, LONGEST_VALUE + 1 + short]);
+    structures[0].resize(length - 2, 0x00);
+    let count = (length - 2 - 14) as u32;
+    structures[0][6..10].copy_from_slice(&count.to_be_bytes());
+    Draft { kind: "about the longest".to_string(), element: element(&structures), numbers }
+}
