@@ -123,14 +123,16 @@ reads sys fi e sheet r after b er ea =
     only kn (listed ps) q p n = accepted-only sys fi e (length sheet) kn b ps q
 
 -- the sheet that is read has room in its buffer
-pub read-within : (sys : ℕ) (fi : Bool) (e sheet : List ℕ) (r : ElementRead) (after : List ℕ) → Reads sys fi e sheet r after → r .numbers ≤ length sheet
+pub read-within : (sys : ℕ) (fi : Bool) (e sheet : List ℕ) (r : ElementRead) (after : List ℕ) → Reads sys fi e sheet r after
+    → r .numbers ≤ length sheet
 unfolding read reading
 read-within sys fi e sheet r after d = subst (λ (x : ElementRead). x .numbers ≤ length sheet) (sym (d .answer)) (within (known sys) (judged sys fi e))
   where
     fitted : (ps : List Packet) (a b : Bool) → hasRoom sys (length sheet) ps ≡ b
         → readOf sys (cond a (unless 17 b (listed ps)) (refused 5 limit)) .numbers ≤ length sheet
     fitted ps true true q =
-        leb-true (length (sheetOf sys ps)) (length sheet) (both (leb (length (allWords ps)) 65535) (leb (length (sheetOf sys ps)) (length sheet)) q .1)
+        leb-true (length (sheetOf sys ps)) (length sheet)
+        (both (leb (length (allWords ps)) 65535) (leb (length (sheetOf sys ps)) (length sheet)) q .1)
     fitted ps true false q = omega arith
     fitted ps false b q = omega arith
 

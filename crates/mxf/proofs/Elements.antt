@@ -20,7 +20,8 @@ use Rattle.rules.specs.Numbers.{Outcome, listed, also}
 use Rattle.rules.proofs.Basics.{never, either, take-bytes, drop-bytes}
 use Rattle.mxf.specs.Element.{Padded, packetsOf, progressive, two, three, key, wrapping, coding, samples, structure, value, element}
 use Rattle.mxf.specs.Served.{fiRead}
-use Rattle.mxf.specs.Judging.{twoIn, threeIn, fourIn, inFrame, isCoding, isCount, sizeIn, frontThen, arrayThen, packetIn, structures, keyThen, headThen, judged}
+use Rattle.mxf.specs.Judging.{twoIn, threeIn, fourIn, inFrame, isCoding, isCount, sizeIn, frontThen, arrayThen, packetIn}
+use Rattle.mxf.specs.Judging.{structures, keyThen, headThen, judged}
 use Rattle.mxf.specs.Demands.{Held, Gives}
 use Rattle.mxf.proofs.JudgingLaws.{right}
 use Rattle.mxf.proofs.Inversion.{Structure, structures-listed, Head, judged-listed}
@@ -285,7 +286,8 @@ firsts : (n i : ℕ) (s : List ℕ) → i + n ≤ length s → drop i s ≡ gets
 firsts zero i s h = let e : i + 0 ≡ i = omega arith in rw e
 firsts (suc n) i s h =
     let e : i + suc n ≡ suc i + n = omega arith in
-    drop-cons s i 0 (omega arith) ∙ ap (λ (t : List ℕ). getD s i 0 ∷ t) (firsts n (suc i) s (omega arith) ∙ ap (λ (m : ℕ). gets n (suc i) s (drop m s)) (sym e))
+    drop-cons s i 0 (omega arith)
+    ∙ ap (λ (t : List ℕ). getD s i 0 ∷ t) (firsts n (suc i) s (omega arith) ∙ ap (λ (m : ℕ). gets n (suc i) s (drop m s)) (sym e))
 
 pub fi-small : (sys : ℕ) (fi : Bool) → fiRead sys fi < 2
 unfolding fiRead

@@ -279,7 +279,8 @@ writes fi s target r after hs er ea =
     number : r ≡ writtenOf (systemIn s) (writing fi s (length target)) → r .number ≡ writtenOf (systemIn s) (writing fi s (length target)) .number
     number e = ap (λ (x : ElementWritten). x .number) e
 
-    unwritten : (o : Outcome) → r ≡ writtenOf (systemIn s) o → after ≡ elementIn (systemIn s) target o → (r .number ≡ 0 → ⊥) → Unwritten r target after
+    unwritten : (o : Outcome) → r ≡ writtenOf (systemIn s) o → after ≡ elementIn (systemIn s) target o → (r .number ≡ 0 → ⊥)
+        → Unwritten r target after
     unwritten (listed ps) p q n = absurd (n (ap (λ (x : ElementWritten). x .number) p))
     unwritten (refused m i) p q n =
         record { kept = q; packets = ap (λ (x : ElementWritten). x .packets) p; bytes = ap (λ (x : ElementWritten). x .bytes) p }
@@ -319,5 +320,6 @@ writes fi s target r after hs er ea =
         let b : r .bytes ≡ length (elementOf (x .0) qs) = ap (λ (y : ElementWritten). y .bytes) (w .0) in
         let front : take (r .bytes) after ≡ elementOf (x .0) qs =
         ap (take (r .bytes)) (w .1) ∙ take-at (elementOf (x .0) qs) (drop (length (elementOf (x .0) qs)) target) (r .bytes) (sym b) in
-        let same : elementOf (x .0) qs ≡ elementOf sys (served sys fi ps) = ap₂ (λ (n : ℕ) (rs : List Packet). elementOf n (served n fi rs)) (u .0) (u .1) in
+        let same : elementOf (x .0) qs ≡ elementOf sys (served sys fi ps) =
+        ap₂ (λ (n : ℕ) (rs : List Packet). elementOf n (served n fi rs)) (u .0) (u .1) in
         comes-back fi s hs sys ps g lined (take (r .bytes) after) sheet (front ∙ same) h

@@ -17,7 +17,6 @@ ghost use Rattle.packing1.specs.Open.{
   PacksEnd,
   PacketOpened,
   Within,
-  codeOf,
   Opens,
   packetsFrom,
   packetsOfFives,
