@@ -1,6 +1,6 @@
 -- What follows from the definitions of this crate.
 --
---   Laws    for callers: which systems have figures
+--   Laws    for callers: which systems have figures, and that those found are the system's
 --   Moves   bytes moved block by block, row by row
 --   Order   the code's order is the rules' laying order
 pub mod Laws

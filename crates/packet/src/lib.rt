@@ -113,6 +113,13 @@ pub fn words() -> [u16; 256]
     table
 }
 
+// "the low eight bits of each word" (document 01): what a DANC packet, an element's sample and a row of the lister have of it.
+pub fn low(w: u16) -> u8
+    ensures { λ r. ⌜ r ≡ w % 256 ⌝ }
+{
+    (w % 256) as u8
+}
+
 // A word's low byte as a place in the table, or a DC, so that no caller has to show that the cast keeps it.
 pub fn low_byte(w: u16) -> usize
     ensures { λ r. ⌜ r ≡ w % 256 ⌝ }

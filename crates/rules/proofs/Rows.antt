@@ -2,9 +2,10 @@
 -- packet gives here the same of a whole row.
 --
 -- In order: what is laid is read (`row-read`); what is read was laid (`row-laid`); a refusal has a number (`row-refused`); how many
--- packets there may be does not matter once they are enough (`row-enough`), and then 5 is never given (`row-fault`).
+-- packets there may be does not matter once they are enough (`row-enough`), and then 5 is never given (`row-fault`); there are no more
+-- packets than there may be (`row-few`), nor a refusal past them (`row-place`).
 -- Assumes nothing.
-use Prim.Native.Nat.{ℕ, zero, suc, _≤_, _<_, suc-le-suc}
+use Prim.Native.Nat.{ℕ, zero, suc, _+_, _≤_, _<_, suc-le-suc}
 use mathlib.Core.Path.{_≡_, refl, sym, ap, ap₂, _∙_, subst}
 use mathlib.Core.Bool.{Bool, true, false, cond}
 use mathlib.Core.List.{List, [], _∷_, _++_, map, append-assoc}
@@ -173,3 +174,46 @@ module _ {A : Type 0} (row : Row A) where
         turn-fault P h s i n k (packetsIn row left (suc i) (row .rest s))
         (λ q. let m = shrinks s q in row-fault P h left (suc i) (row .rest s) n k (omega arith))
         (row .ends s) (eqb (row .fault s) 0) refl e
+
+-- the limit of a row
+module _ {A : Type 0} (row : Row A) where
+  -- no more packets than there may be
+  pub row-few : (left i : ℕ) (s : List A) (ps : List Packet) → packetsIn row left i s ≡ listed ps → length ps ≤ left
+  row-few zero i s ps e = go (row .ends s) e
+    where
+      go : (d : Bool) → cond d (listed []) (refused 5 i) ≡ listed ps → length ps ≤ 0
+      go true e = let z : [] ≡ ps = cc in let l : 0 ≡ length ps = ap length z in omega arith
+      go false e = never (cc)
+  row-few (suc left) i s ps e =
+      go (row .ends s) (eqb (row .fault s) 0) (packetsIn row left (suc i) (row .rest s)) (row-few left (suc i) (row .rest s)) e
+    where
+      none-left : [] ≡ ps → length ps ≤ suc left
+      none-left z = let l : 0 ≡ length ps = ap length z in omega arith
+
+      go : (d f : Bool) (o : Outcome) → ((qs : List Packet) → o ≡ listed qs → length qs ≤ left)
+          → cond d (listed []) (cond f (also (row .packet s) o) (refused (row .fault s) i)) ≡ listed ps → length ps ≤ suc left
+      go true f o later e = none-left (cc)
+      go false true (refused n j) later e = never (cc)
+      go false true (listed qs) later e =
+          let z : row .packet s ∷ qs ≡ ps = cc in
+          let l : suc (length qs) ≡ length ps = ap length z in
+          let k = later qs refl in
+          omega arith
+      go false false o later e = never (cc)
+
+  -- nor a refusal past them
+  pub row-place : (left i : ℕ) (s : List A) (n k : ℕ) → packetsIn row left i s ≡ refused n k → k ≤ i + left
+  row-place zero i s n k e = go (row .ends s) e
+    where
+      go : (d : Bool) → cond d (listed []) (refused 5 i) ≡ refused n k → k ≤ i + 0
+      go true e = never (cc)
+      go false e = let z : i ≡ k = cc in omega arith
+  row-place (suc left) i s n k e =
+      go (row .ends s) (eqb (row .fault s) 0) (packetsIn row left (suc i) (row .rest s)) (row-place left (suc i) (row .rest s)) e
+    where
+      go : (d f : Bool) (o : Outcome) → ((m j : ℕ) → o ≡ refused m j → j ≤ suc i + left)
+          → cond d (listed []) (cond f (also (row .packet s) o) (refused (row .fault s) i)) ≡ refused n k → k ≤ i + suc left
+      go true f o later e = never (cc)
+      go false true (refused m j) later e = let l = later n k e in omega arith
+      go false true (listed qs) later e = never (cc)
+      go false false o later e = let z : i ≡ k = cc in omega arith
