@@ -1,4 +1,4 @@
--- `packing1::fives::low_bytes` meets its contract. The loop's invariant: the bytes that are left, stored from i on, give the whole.
+-- `sections::low_bytes` meets its contract. The loop's invariant: the bytes that are left, stored from i on, give the whole.
 -- Assumes nothing.
 use Prim.Native.Nat.{_-_, _≤_}
 use mathlib.Core.Path.{_≡_, refl}
@@ -8,9 +8,9 @@ use lib.ListN.{length, drop}
 use lib.Seq.{sets}
 use borrow.Author.Needs.{needs}
 use Rattle.rules.specs.Laying.{low}
-use Rattle.packing1.proofs.FivesLaws.{low-turn, low-end}
-use Rattle.packing1.proofs.fives.low_bytes.Statement.{statement}
-use Rattle.packing1.proofs.fives.low_bytes.Tie as tie
+use Rattle.sections.proofs.Laws.{low-turn, low-end}
+use Rattle.sections.proofs.low_bytes.Statement.{statement}
+use Rattle.sections.proofs.low_bytes.Tie as tie
 
 abbrev Inv-loop : tie.InvT-loop
 Inv-loop ws s₀ i₀ s i = (i ≤ length ws) × (sets s i (map low (drop i ws)) ≡ sets s₀ 0 (map low ws))

@@ -1,10 +1,10 @@
--- `packing1::fives::string_of` meets its contract: headers over the low bytes of all words.
+-- `sections::string_of` meets its contract: headers over the low bytes of all words.
 -- Assumes nothing.
 use native.Mathlib.Omega.{arith}
 use borrow.Author.Needs.{needs}
-use Rattle.packing1.proofs.FivesLaws.{string-fits, string-laid}
-use Rattle.packing1.proofs.fives.string_of.Statement.{statement}
-use Rattle.packing1.proofs.fives.string_of.Tie as tie
+use Rattle.sections.proofs.Laws.{string-fits, string-laid}
+use Rattle.sections.proofs.string_of.Statement.{statement}
+use Rattle.sections.proofs.string_of.Tie as tie
 
 returns : tie.Need-returns
 returns c = string-fits (omega arith)

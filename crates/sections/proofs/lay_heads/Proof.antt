@@ -1,13 +1,13 @@
--- `packing1::fives::lay_heads` meets its contract. The loop's invariant, for every list of the sections: the string as far as it is
+-- `sections::lay_heads` meets its contract. The loop's invariant, for every list of the sections: the string as far as it is
 -- laid, and low bytes behind it.
 -- Assumes nothing.
 use Prim.Native.Nat.{_-_, _≤_}
 use native.Mathlib.Omega.{arith}
 use lib.ListN.{length}
 use borrow.Author.Needs.{needs}
-use Rattle.packing1.proofs.FivesLaws.{HeadsSoFar, heads-begin, heads-whole, heads-turn, heads-done}
-use Rattle.packing1.proofs.fives.lay_heads.Statement.{statement}
-use Rattle.packing1.proofs.fives.lay_heads.Tie as tie
+use Rattle.sections.proofs.Laws.{HeadsSoFar, heads-begin, heads-whole, heads-turn, heads-done}
+use Rattle.sections.proofs.lay_heads.Statement.{statement}
+use Rattle.sections.proofs.lay_heads.Tie as tie
 
 abbrev Inv-loop : tie.InvT-loop
 Inv-loop ls ws s₀ k₀ at₀ s k at = (k ≤ length ls) × (at ≤ length ws) × HeadsSoFar ls ws s₀ s k at
