@@ -28,7 +28,7 @@ use Rattle.rules.proofs.Words.{low-word, map-low, packet-words}
 use Rattle.rules.proofs.Sheets.{system-back, count-back, sheet-length, sheet-read}
 use Rattle.danc.proofs.Laws.{rest-part}
 use Rattle.packing1.specs.Fives.{SectionsOf}
-use Rattle.packing1.proofs.FivesLaws.{lentB, lentC, sections-lent, packet-there, dc-there}
+use Rattle.packing1.proofs.Laws.{lentB, lentC, sections-lent, packet-there, dc-there}
 use Rattle.mxf.specs.Element.{two, three, four, key, wrapping, coding, bare, samples, structure, value, element, elementOf}
 use Rattle.mxf.specs.Served.{serves, served}
 use Rattle.mxf.specs.Writing.{lined, export, withRoom, writing, writtenOf, elementIn, write, elementAfter}

@@ -1,3 +1,2 @@
 -- What the proofs of this crate rest on, over plain values.
-pub mod FivesLaws
-pub mod OpenLaws
+pub mod Laws

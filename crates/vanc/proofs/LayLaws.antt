@@ -39,7 +39,7 @@ use Rattle.frame.specs.Bytes.{areaWith}
 use Rattle.frame.specs.declared.Figures.{Figures}
 use Rattle.frame.proofs.Laws.{each-system}
 use Rattle.packing1.specs.Fives.{SectionsOf, LaysFives, LaysString}
-use Rattle.packing1.proofs.FivesLaws.{lentB, lentC, sections-lent}
+use Rattle.packing1.proofs.Laws.{lentB, lentC, sections-lent}
 use Rattle.packing2.specs.Long.{Padded, longFits, longAfter, CountOf}
 use Rattle.vanc.specs.Lay.{LaysInto, lastTest, LaysList}
 

@@ -37,7 +37,7 @@ use Rattle.frame.proofs.Laws.{each-system, unknown-figures, known-figures}
 use Rattle.sheet.specs.Write.{shownRow, shown, wrote, sheetAfter}
 use Rattle.sheet.proofs.WriteLaws.{shown-string}
 use Rattle.danc.specs.Validated.{codeOf as validCode, validated, Within}
-use Rattle.packing1.specs.Open.{codeOf, Opens, packetsOfFives}
+use Rattle.unpacking1.specs.Open.{codeOf, Opens, packetsOfFives}
 use Rattle.packing2.specs.Unlong.{openedFrom}
 use Rattle.packing2.proofs.UnlongLaws.{Answer, answer-none, answer-some}
 use Rattle.vanc.specs.Read.{Back, Coded}

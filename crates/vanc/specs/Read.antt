@@ -14,7 +14,7 @@ use Rattle.rules.specs.Numbers.{Outcome, listed, refused, unless, andThen}
 use Rattle.rules.specs.Reading.{readBackOf, bufferOf}
 use Rattle.rules.specs.declared.ReadBack.{ReadBack}
 use Rattle.sheet.specs.Write.{shown}
-use Rattle.packing1.specs.Open.{codeOf}
+use Rattle.unpacking1.specs.Open.{codeOf}
 
 -- ---- 17, and what is given back
 

@@ -14,7 +14,7 @@ ghost use Rattle.rules.specs.Numbers.{Outcome, listed, refused};
 ghost use Rattle.rules.specs.Reading.{readBackOf, packetsOfOpened, packetsOfUserBytes, packingFound};
 ghost use Rattle.rules.specs.Demands.{Reads};
 ghost use Rattle.sheet.specs.Write.{shown};
-ghost use Rattle.packing1.specs.Open.{packetsOfFives};
+ghost use Rattle.unpacking1.specs.Open.{packetsOfFives};
 ghost use Rattle.packing2.specs.Unlong.{openedFrom};
 ghost use Rattle.vanc.specs.Read.{Back, Coded};
 
@@ -95,7 +95,7 @@ fn read_fives(
     ensures { λ r. ⌜ ((y : System) → y .last ≡ last .0
         → Back system 1 (now (sheet .entry)) (packetsOfFives y (now (us .entry)) total) r (now (sheet .exit))) ⌝ }
 {
-    let code = packing1::open_fives(last, us, total);
+    let code = unpacking1::open_fives(last, us, total);
     decoded(system, 1, code, us, sheet)
 }
 

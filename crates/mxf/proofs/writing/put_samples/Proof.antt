@@ -8,7 +8,7 @@ use lib.ListN.{length, drop, length-set, length-map}
 use lib.Seq.{sets}
 use borrow.Author.Needs.{needs}
 use Rattle.rules.specs.Laying.{low}
-use Rattle.packing1.proofs.FivesLaws.{low-turn, low-end}
+use Rattle.packing1.proofs.Laws.{low-turn, low-end}
 use Rattle.mxf.proofs.WritingLaws.{over-all}
 use Rattle.mxf.proofs.writing.put_samples.Statement.{statement}
 use Rattle.mxf.proofs.writing.put_samples.Tie as tie

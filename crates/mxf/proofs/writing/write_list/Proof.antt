@@ -8,7 +8,7 @@ use lib.Seq.{length-take-le}
 use borrow.Author.Needs.{needs}
 use Rattle.rules.specs.Systems.{system}
 use Rattle.mxf.specs.Parts.{Sections}
-use Rattle.packing1.proofs.FivesLaws.{lentB, lentC, sections-lent}
+use Rattle.packing1.proofs.Laws.{lentB, lentC, sections-lent}
 use Rattle.mxf.proofs.WritingLaws.{sheet-begins, not-lined, no-room, measured, measured-small, element-written}
 use Rattle.mxf.proofs.writing.write_list.Statement.{statement}
 use Rattle.mxf.proofs.writing.write_list.Tie as tie

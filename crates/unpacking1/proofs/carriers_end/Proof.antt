@@ -1,0 +1,48 @@
+use Prim.Native.Nat.{_-_}
+use native.Mathlib.Omega.{arith}
+use borrow.Author.Needs.{needs}
+use Rattle.unpacking1.specs.Open.{SameOrder}
+use Rattle.unpacking1.proofs.Laws.{passed-none, passed-more}
+use Rattle.unpacking1.proofs.carriers_end.Statement.{statement}
+use Rattle.unpacking1.proofs.carriers_end.Tie as tie
+
+abbrev Inv-loop : tie.InvT-loop
+Inv-loop us at total end₀ end = SameOrder us at total end
+
+abbrev μ-loop : tie.MeasureT-loop
+μ-loop us at total end₀ end = total - end
+
+loop-holds : tie.Need-loop-holds Inv-loop μ-loop
+loop-holds c = passed-none (c .args .us .now) (c .args .at) (c .args .total) (c .pre .0) (c .pre .2)
+
+element-copy-out-if1 : tie.Need-element-copy-out-if1 Inv-loop μ-loop
+element-copy-out-if1 c = search needs
+
+returns : tie.Need-returns Inv-loop μ-loop
+returns c = c .before .before .before .loop .inv
+
+add-end : tie.Need-add-end Inv-loop μ-loop
+add-end c = search needs
+
+loop-less : tie.Need-loop-less Inv-loop μ-loop
+loop-less c = search needs
+
+loop-again : tie.Need-loop-again Inv-loop μ-loop
+loop-again c = let a = c .before .before .before .before .args in let z = c .before .before .before .before .pre in passed-more (a .us .now) (a .at) (a .total) (c .before .before .before .loop .end) (c .before .before .before .loop .inv) (c .before .before .loop-test .taken) (omega arith) (c .if1 .left)
+
+returns-2 : tie.Need-returns-2 Inv-loop μ-loop
+returns-2 c = c .before .loop .inv
+
+pub carriers-end-spec : {M : Type 1} → statement M
+carriers-end-spec =
+    tie.close
+    (tie.spec
+    Inv-loop
+    μ-loop
+    loop-holds
+    element-copy-out-if1
+    returns
+    add-end
+    loop-less
+    loop-again
+    returns-2)
