@@ -24,9 +24,6 @@ use Rattle.rules.specs.Reading.{bufferOf}
 use Rattle.rules.proofs.Basics.{second-false}
 use Rattle.rules.proofs.Sheets.{sheet-length}
 use Rattle.rules.proofs.Words.{packet-words, words-room}
-use Rattle.frame.specs.Systems.{figuresOf}
-use Rattle.frame.specs.declared.Figures.{Figures}
-use Rattle.frame.proofs.Laws.{unknown-figures, known-figures}
 use Rattle.sheet.specs.Write.{listIn, framed, wordsAfter}
 use Rattle.sheet.proofs.Filling.{two-more, part-long, part-more, all-written, threeOf, backOf}
 use Rattle.sheet.proofs.Filling.{sheet-before, sheet-lent, sheet-long, sheet-filled}
@@ -402,17 +399,15 @@ module _ (sys : ℕ) (fi : Bool) (e sheet : List ℕ) (j : ElementRead) (h : j �
         record { answer = a ∙ ap (readOf sys) p; buffer = b ∙ ap (bufferOf sys sheet) p }
 
     -- 5
-    pub too-many : 512 < j .packets → (r : ElementRead) → r ≡ readOf 0 (refused 5 512)
+    pub too-many : limit < j .packets → (r : ElementRead) → r ≡ readOf 0 (refused 5 limit)
         → Answers sys sheet (andThen (judged sys fi e) (lastTests sys (length sheet))) r sheet
-    unfolding limit
     too-many m r q =
         let a = packets-are in
-        given (refused 5 512) (rw (lt-leb (length found) 512 (omega arith))) r sheet q refl
+        given (refused 5 limit) (rw (lt-leb (length found) limit (omega arith))) r sheet q refl
 
-    module _ (few : j .packets ≤ 512) where
+    module _ (few : j .packets ≤ limit) where
       few-found : leb (length found) limit ≡ true
-      unfolding limit
-      few-found = let a = packets-are in le-leb (length found) 512 (omega arith)
+      few-found = let a = packets-are in le-leb (length found) limit (omega arith)
 
       -- 17
       pub no-room : (65535 < j .numbers - 4 - 2 * j .packets) ⊎ (length sheet < j .numbers) → (r : ElementRead)
@@ -469,22 +464,6 @@ module _ (sys : ℕ) (fi : Bool) (e sheet : List ℕ) (j : ElementRead) (h : j �
             (ap₂ (λ (x : List ℕ) (m : ℕ). x ++ drop m sheet) (q ∙ ap (sheetOf sys) g) (sym s))
 
 -- ---- the first test, and the answer as the definitions have it
-
--- the figures that are found
-module _ (sys : ℕ) (x : Figures) (found : x ≡ figuresOf sys) where
-  sequences-is : x .sequences ≡ system sys .sequences
-  unfolding figuresOf
-  sequences-is = ap (λ (z : Figures). z .sequences) found
-
-  pub last-is : x .«last_line» .0 ≡ system sys .last
-  unfolding figuresOf
-  last-is = ap (λ (z : Figures). z .«last_line» .0) found
-
-  pub is-unknown : x .sequences ≡ 0 → known sys ≡ false
-  is-unknown z = unknown-figures sys (sym sequences-is ∙ z)
-
-  pub is-known : (x .sequences ≡ 0 → ⊥) → known sys ≡ true
-  is-known z = known-figures sys (λ e. z (sequences-is ∙ e))
 
 module _ (sys : ℕ) (fi : Bool) (e sheet : List ℕ) (r : ElementRead) (after : List ℕ) where
   -- the contract, over an element of bytes

@@ -1,7 +1,7 @@
 -- Laws for the proofs of `writing`, one path of the code at a time.
 --
--- In order: the packets that are left; the bytes of structures; which packets are served; the measure; stores from the front; parts of a
--- buffer; a structure; the structures; the head; the element; the sections of a sheet; 18 and 17; the lister's tests.
+-- In order: the bytes of structures; which packets are served; the measure; stores from the front; parts of a
+-- buffer; a structure; the structures; the head; the element; 18 and 17; the lister's tests.
 -- Assumes nothing.
 use Prim.Native.Nat.{ℕ, suc, _+_, _-_, _*_, _/_, _%_, _≤_, _<_}
 use mathlib.Core.Path.{_≡_, refl, sym, ap, ap₂, _∙_}
@@ -17,7 +17,7 @@ use Rattle.rules.specs.Base.{joined, All, one}
 use Rattle.rules.specs.Systems.{System, system}
 use Rattle.rules.specs.Packet.{Packet, body, word, words, coded, checkOf, Sound}
 use Rattle.rules.specs.Danc.{bytesOf, stringBytes}
-use Rattle.rules.specs.Sheet.{limit, locations, allWords, systemIn, countIn}
+use Rattle.rules.specs.Sheet.{limit, allWords, systemIn, locationsIn, wordsIn}
 use Rattle.rules.specs.Numbers.{Outcome, listed, refused, andThen}
 use Rattle.rules.specs.Laying.{low, sheetTests}
 use Rattle.rules.specs.Lister.{testedOf, tested}
@@ -27,8 +27,8 @@ use Rattle.rules.proofs.Basics.{sets-front, sets-behind}
 use Rattle.rules.proofs.Words.{low-word, map-low, packet-words}
 use Rattle.rules.proofs.Sheets.{system-back, count-back, sheet-length, sheet-read}
 use Rattle.danc.proofs.Laws.{rest-part}
-use Rattle.packing1.specs.Fives.{SectionsOf}
-use Rattle.packing1.proofs.Laws.{lentB, lentC, sections-lent, packet-there, dc-there}
+use Rattle.sections.specs.Sections.{SectionsOf}
+use Rattle.sections.proofs.Laws.{sections-of, Left, left-all, left-none, Next, next-of}
 use Rattle.mxf.specs.Element.{two, three, four, key, wrapping, coding, bare, samples, structure, value, element, elementOf}
 use Rattle.mxf.specs.Served.{serves, served}
 use Rattle.mxf.specs.Writing.{lined, export, withRoom, writing, writtenOf, elementIn, write, elementAfter}
@@ -36,70 +36,6 @@ use Rattle.mxf.specs.Parts.{Sections}
 use Rattle.mxf.specs.declared.ElementWritten.{ElementWritten}
 use Rattle.mxf.proofs.Elements.{structure-length}
 use Rattle.mxf.proofs.Exporting.{joined-short, served-sound, served-few}
-
--- ---- the packets that are left
-
--- at these places of the sections stand the packets that are left
-record Left (y : System) (ls ws : List ℕ) (k at : ℕ) (left : List Packet) : Type 0 where
-  sound : All (Sound y) left
-  pairs : drop (2 * k) ls ≡ locations left
-  there : drop at ws ≡ allWords left
-
--- the next of them, and those that are left then
-record Next (y : System) (ls ws : List ℕ) (k at : ℕ) (left : List Packet) : Type 0 where
-  packet : Packet
-  rest : List Packet
-  is : left ≡ packet ∷ rest
-  sound : Sound y packet
-  pair : 2 * k + 2 ≤ length ls
-  line : getD ls (2 * k) 0 ≡ packet .line
-  flags : getD ls (2 * k + 1) 0 ≡ packet .flags
-  there : drop at ws ≡ words packet ++ allWords rest
-  within : at + bytesOf packet ≤ length ws
-  dc : low (getD ws (at + 5) 0) ≡ length (packet .user)
-  after : Left y ls ws (k + 1) (at + bytesOf packet) rest
-
-first-of : (y : System) (p : Packet) (ps : List Packet) → All (Sound y) (p ∷ ps) → Sound y p × All (Sound y) ps
-first-of y p ps (one g gs) = (g, gs)
-
-module _ (y : System) (ls ws : List ℕ) where
-  left-all : (ps : List Packet) → SectionsOf y ps ls ws → Left y ls ws 0 0 ps
-  left-all ps h = record { sound = h .sound; pairs = h .sectionB; there = h .sectionC }
-
-  left-none : (k at : ℕ) (left : List Packet) → Left y ls ws k at left → length ls ≤ 2 * k → left ≡ []
-  left-none k at [] l h = refl
-  left-none k at (p ∷ qs) l h = absurd (let d = length-drop (2 * k) ls in let m = ap length (l .pairs) in omega arith)
-
-  next-of : (k at : ℕ) (left : List Packet) → Left y ls ws k at left → 2 * k < length ls → Next y ls ws k at left
-  next-of k at [] l h = absurd (let d = length-drop (2 * k) ls in let m = ap length (l .pairs) in omega arith)
-  next-of k at (p ∷ qs) l h =
-      let g = first-of y p qs (l .sound) in
-      let z : 2 * k ≡ 2 * k + 0 = omega arith in
-      let w : length (drop at ws) ≡ length (words p) + length (allWords qs) = ap length (l .there) ∙ length-append (words p) (allWords qs) in
-      let there : at ≤ length ws = let d = length-drop at ws in let m = packet-words p in omega arith in
-      record {
-        packet = p;
-        rest = qs;
-        is = refl;
-        sound = g .0;
-        pair = let d = length-drop (2 * k) ls in let m = ap length (l .pairs) in omega arith;
-        line = ap (λ (n : ℕ). getD ls n 0) z ∙ sym (getD-drop (2 * k) ls 0 0) ∙ ap (λ (t : List ℕ). getD t 0 0) (l .pairs);
-        flags = sym (getD-drop (2 * k) ls 1 0) ∙ ap (λ (t : List ℕ). getD t 1 0) (l .pairs);
-        there = l .there;
-        within = packet-there ws at there p (allWords qs) (l .there);
-        dc = dc-there ws at there p (allWords qs) (g .0 .many) (l .there);
-        after = record {
-          sound = g .1;
-          pairs =
-              ap (λ (n : ℕ). drop n ls) (let e : 2 * (k + 1) ≡ 2 * k + 2 = omega arith in e)
-              ∙ sym (drop-drop 2 (2 * k) ls)
-              ∙ ap (drop 2) (l .pairs);
-          there =
-              sym (drop-drop (bytesOf p) at ws)
-              ∙ ap (drop (bytesOf p)) (l .there)
-              ∙ drop-at (words p) (allWords qs) (bytesOf p) (packet-words p);
-        };
-      }
 
 -- ---- the bytes of structures
 
@@ -144,7 +80,7 @@ module _ (sys : ℕ) (fi : Bool) (p : Packet) (ps : List Packet) where
 -- once the packets that are left are measured with those that are, all are measured
 record MeasureLeft (sys : ℕ) (fi : Bool) (y : System) (ps : List Packet) (ls ws : List ℕ) (k at packets bytes : ℕ) : Type 0 where
   left : List Packet
-  is : Left y ls ws k at left
+  is : Left y ls ws (2 * k) at left
   lines : (o : Outcome) → lined sys fi 0 ps o ≡ lined sys fi k left o
   count : packets + length (served sys fi left) ≡ length (served sys fi ps)
   size : bytes + length (structuresOf sys (served sys fi left)) ≡ 22 + length (structuresOf sys (served sys fi ps))
@@ -172,7 +108,7 @@ module _ {sys : ℕ} {fi : Bool} {ls ws : List ℕ} {k at packets bytes : ℕ} (
       go : MeasureLeft sys fi y ps ls ws k at packets bytes
           → record { number = 0; place = 0; packets = packets; bytes = bytes } ≡ writtenOf sys (export sys fi ps)
       go f =
-          let n : f .left ≡ [] = left-none y ls ws k at (f .left) (f .is) end in
+          let n : f .left ≡ [] = left-none y ls ws (2 * k) at (f .left) (f .is) (omega arith) in
           let e : export sys fi ps ≡ listed (served sys fi ps) =
           f .lines (listed (served sys fi ps)) ∙ ap (λ (t : List Packet). lined sys fi k t (listed (served sys fi ps))) n in
           let c : packets ≡ length (served sys fi ps) =
@@ -186,8 +122,8 @@ module _ {sys : ℕ} {fi : Bool} {ls ws : List ℕ} {k at packets bytes : ℕ} (
           ap₂ (λ (m n : ℕ). record { number = 0; place = 0; packets = m; bytes = n }) c d ∙ ap (writtenOf sys) (sym e)
 
   module _ (more : 2 * k < length ls) where
-    measure-next : (y : System) (ps : List Packet) (h : SectionsOf y ps ls ws) → Next y ls ws k at (so .of y ps h .left)
-    measure-next y ps h = let f = so .of y ps h in next-of y ls ws k at (f .left) (f .is) more
+    measure-next : (y : System) (ps : List Packet) (h : SectionsOf y ps ls ws) → Next y ls ws (2 * k) at (so .of y ps h .left)
+    measure-next y ps h = let f = so .of y ps h in next-of y ls ws (2 * k) at (f .left) (f .is) more
 
     -- the next packet stands in the sections
     pub measure-inside : Sections ls ws → (at + (low (getD ws (at + 5) 0) + 7) ≤ length ws) × (2 * k + 2 ≤ length ls)
@@ -200,7 +136,7 @@ module _ {sys : ℕ} {fi : Bool} {ls ws : List ℕ} {k at packets bytes : ℕ} (
       pub measure-unlined : {r : ElementWritten} → b ≡ true → getD ls (2 * k) 0 ≡ 0 → r ≡ writtenOf 0 (refused 18 k) → Answer r
       measure-unlined {r} t z e y ps h = go (so .of y ps h) (measure-next y ps h)
         where
-          go : (f : MeasureLeft sys fi y ps ls ws k at packets bytes) → Next y ls ws k at (f .left) → r ≡ writtenOf sys (export sys fi ps)
+          go : (f : MeasureLeft sys fi y ps ls ws k at packets bytes) → Next y ls ws (2 * k) at (f .left) → r ≡ writtenOf sys (export sys fi ps)
           go f n =
               let o : Outcome = listed (served sys fi ps) in
               let s : serves sys fi (n .packet .flags) ≡ true = ap (serves sys fi) (sym (n .flags)) ∙ sym is ∙ t in
@@ -218,7 +154,7 @@ module _ {sys : ℕ} {fi : Bool} {ls ws : List ℕ} {k at packets bytes : ℕ} (
         short = let m = so .short in omega arith;
       }
         where
-          go : (y : System) (ps : List Packet) (f : MeasureLeft sys fi y ps ls ws k at packets bytes) → Next y ls ws k at (f .left)
+          go : (y : System) (ps : List Packet) (f : MeasureLeft sys fi y ps ls ws k at packets bytes) → Next y ls ws (2 * k) at (f .left)
               → MeasureLeft sys fi y ps ls ws (k + 1) (at + (dc + 7)) packets₁ bytes₁
           go y ps f n =
               let p : Packet = n .packet in
@@ -226,12 +162,13 @@ module _ {sys : ℕ} {fi : Bool} {ls ws : List ℕ} {k at packets bytes : ℕ} (
               let s : serves sys fi (p .flags) ≡ true = ap (serves sys fi) (sym (n .flags)) ∙ sym is ∙ t in
               let v : served sys fi (f .left) ≡ p ∷ served sys fi qs = ap (served sys fi) (n .is) ∙ served-taken sys fi p qs s in
               let d : dc ≡ length (p .user) = size ∙ n .dc in
+              let turn : 2 * (k + 1) ≡ 2 * k + 2 = omega arith in
               let c : length (served sys fi (f .left)) ≡ suc (length (served sys fi qs)) = ap length v in
               let l : length (structuresOf sys (served sys fi (f .left))) ≡ length (p .user) + 17 + length (structuresOf sys (served sys fi qs)) =
               ap (λ (rs : List Packet). length (structuresOf sys rs)) v ∙ structures-length sys p (served sys fi qs) in
               record {
                 left = qs;
-                is = rw d (n .after);
+                is = rw (turn, d) (n .after);
                 lines = λ o.
                     f .lines o
                     ∙ ap (λ (rs : List Packet). lined sys fi k rs o) (n .is)
@@ -249,7 +186,7 @@ module _ {sys : ℕ} {fi : Bool} {ls ws : List ℕ} {k at packets bytes : ℕ} (
         short = let m = so .short in omega arith;
       }
         where
-          go : (y : System) (ps : List Packet) (f : MeasureLeft sys fi y ps ls ws k at packets bytes) → Next y ls ws k at (f .left)
+          go : (y : System) (ps : List Packet) (f : MeasureLeft sys fi y ps ls ws k at packets bytes) → Next y ls ws (2 * k) at (f .left)
               → MeasureLeft sys fi y ps ls ws (k + 1) (at + (dc + 7)) packets₁ bytes₁
           go y ps f n =
               let p : Packet = n .packet in
@@ -257,9 +194,10 @@ module _ {sys : ℕ} {fi : Bool} {ls ws : List ℕ} {k at packets bytes : ℕ} (
               let s : serves sys fi (p .flags) ≡ false = ap (serves sys fi) (sym (n .flags)) ∙ sym is ∙ t in
               let v : served sys fi (f .left) ≡ served sys fi qs = ap (served sys fi) (n .is) ∙ served-left sys fi p qs s in
               let d : dc ≡ length (p .user) = size ∙ n .dc in
+              let turn : 2 * (k + 1) ≡ 2 * k + 2 = omega arith in
               record {
                 left = qs;
-                is = rw d (n .after);
+                is = rw (turn, d) (n .after);
                 lines = λ o. f .lines o ∙ ap (λ (rs : List Packet). lined sys fi k rs o) (n .is) ∙ lined-left sys fi p qs k o s;
                 count = ap₂ (λ (m : ℕ) (rs : List Packet). m + length rs) ep (sym v) ∙ f .count;
                 size = ap₂ (λ (m : ℕ) (rs : List Packet). m + length (structuresOf sys rs)) eb (sym v) ∙ f .size;
@@ -402,7 +340,7 @@ structure-is sys y p g =
 -- once the structures that are left are laid behind those that are, all are laid
 record StructuresLeft (sys : ℕ) (fi : Bool) (y : System) (ps : List Packet) (ls ws out : List ℕ) (k at o : ℕ) : Type 0 where
   left : List Packet
-  is : Left y ls ws k at left
+  is : Left y ls ws (2 * k) at left
   room : o + length (structuresOf sys (served sys fi left)) ≡ length out
   laid : take o out ++ structuresOf sys (served sys fi left) ≡ structuresOf sys (served sys fi ps)
 
@@ -426,7 +364,7 @@ module _ {sys : ℕ} {fi : Bool} {ls ws out : List ℕ} {k at o : ℕ} (so : Str
       go : StructuresLeft sys fi y ps ls ws out k at o → out ≡ structuresOf sys (served sys fi ps)
       go f =
           let n : structuresOf sys (served sys fi (f .left)) ≡ [] =
-          ap (λ (t : List Packet). structuresOf sys (served sys fi t)) (left-none y ls ws k at (f .left) (f .is) end) in
+          ap (λ (t : List Packet). structuresOf sys (served sys fi t)) (left-none y ls ws (2 * k) at (f .left) (f .is) (omega arith)) in
           let l : length (structuresOf sys (served sys fi (f .left))) ≡ 0 = ap length n in
           let r = f .room in
           sym (take-all o out (omega arith))
@@ -440,8 +378,8 @@ module _ {sys : ℕ} {fi : Bool} {ls ws out : List ℕ} {k at o : ℕ} (so : Str
   structures-kept {next} {o₁} ys eo e₁ kept = ap length eo ∙ part-long o (next - o) out ys kept
 
   module _ (more : 2 * k < length ls) where
-    structures-next : (y : System) (ps : List Packet) (h : SectionsOf y ps ls ws) → Next y ls ws k at (so .of y ps h .left)
-    structures-next y ps h = let f = so .of y ps h in next-of y ls ws k at (f .left) (f .is) more
+    structures-next : (y : System) (ps : List Packet) (h : SectionsOf y ps ls ws) → Next y ls ws (2 * k) at (so .of y ps h .left)
+    structures-next y ps h = let f = so .of y ps h in next-of y ls ws (2 * k) at (f .left) (f .is) more
 
     -- the next packet stands in the sections
     pub structures-inside : Sections ls ws → (at + (low (getD ws (at + 5) 0) + 7) ≤ length ws) × (2 * k + 2 ≤ length ls)
@@ -452,7 +390,7 @@ module _ {sys : ℕ} {fi : Bool} {ls ws out : List ℕ} {k at o : ℕ} (so : Str
 
     module _ {dc : ℕ} {b : Bool} (size : dc ≡ low (getD ws (at + 5) 0)) (is : b ≡ serves sys fi (getD ls (2 * k + 1) 0)) where
       module _ (t : b ≡ true) where
-        taken-next : (y : System) (ps : List Packet) (f : StructuresLeft sys fi y ps ls ws out k at o) (n : Next y ls ws k at (f .left))
+        taken-next : (y : System) (ps : List Packet) (f : StructuresLeft sys fi y ps ls ws out k at o) (n : Next y ls ws (2 * k) at (f .left))
             → (served sys fi (f .left) ≡ n .packet ∷ served sys fi (n .rest))
             × (o + (dc + 17) + length (structuresOf sys (served sys fi (n .rest))) ≡ length out)
         taken-next y ps f n =
@@ -484,7 +422,7 @@ module _ {sys : ℕ} {fi : Bool} {ls ws out : List ℕ} {k at o : ℕ} (so : Str
           of = λ y ps h. go y ps (so .of y ps h) (structures-next y ps h);
         }
           where
-            go : (y : System) (ps : List Packet) (f : StructuresLeft sys fi y ps ls ws out k at o) → Next y ls ws k at (f .left)
+            go : (y : System) (ps : List Packet) (f : StructuresLeft sys fi y ps ls ws out k at o) → Next y ls ws (2 * k) at (f .left)
                 → StructuresLeft sys fi y ps ls ws out₁ (k + 1) (end + 1) o₁
             go y ps f n =
                 let p : Packet = n .packet in
@@ -492,6 +430,7 @@ module _ {sys : ℕ} {fi : Bool} {ls ws out : List ℕ} {k at o : ℕ} (so : Str
                 let v = taken-next y ps f n in
                 let d : dc ≡ length (p .user) = size ∙ n .dc in
                 let e : end + 1 ≡ at + bytesOf p = omega arith in
+                let turn : 2 * (k + 1) ≡ 2 * k + 2 = omega arith in
                 let s : take (end - (at + 3)) (drop (at + 3) ws) ≡ coded p =
                 coded-there p (allWords qs) ws at (end - (at + 3)) (n .there) (omega arith) in
                 let z : ys ≡ structure sys (bare p) = ey ∙ rw (ew, n .line, n .flags, s) (structure-is sys y p (n .sound)) in
@@ -503,7 +442,7 @@ module _ {sys : ℕ} {fi : Bool} {ls ws out : List ℕ} {k at o : ℕ} (so : Str
                 ap₂ (λ (m : ℕ) (u : List ℕ). take m u) e₁ eo ∙ part-front o (next - o) next out ys (omega arith) (omega arith) in
                 record {
                   left = qs;
-                  is = rw e (n .after);
+                  is = rw (turn, e) (n .after);
                   room = omega arith;
                   laid =
                       ap (λ (u : List ℕ). u ++ structuresOf sys (served sys fi qs)) x
@@ -518,7 +457,7 @@ module _ {sys : ℕ} {fi : Bool} {ls ws out : List ℕ} {k at o : ℕ} (so : Str
           → Structures sys fi ls ws out₁ (k + 1) (end + 1) o₁
       structures-left {end} {o₁} {out₁} t ee eo e₁ = record { of = λ y ps h. go y ps (so .of y ps h) (structures-next y ps h) }
         where
-          go : (y : System) (ps : List Packet) (f : StructuresLeft sys fi y ps ls ws out k at o) → Next y ls ws k at (f .left)
+          go : (y : System) (ps : List Packet) (f : StructuresLeft sys fi y ps ls ws out k at o) → Next y ls ws (2 * k) at (f .left)
               → StructuresLeft sys fi y ps ls ws out₁ (k + 1) (end + 1) o₁
           go y ps f n =
               let p : Packet = n .packet in
@@ -527,9 +466,10 @@ module _ {sys : ℕ} {fi : Bool} {ls ws out : List ℕ} {k at o : ℕ} (so : Str
               let v : served sys fi (f .left) ≡ served sys fi qs = ap (served sys fi) (n .is) ∙ served-left sys fi p qs s in
               let d : dc ≡ length (p .user) = size ∙ n .dc in
               let e : end + 1 ≡ at + bytesOf p = omega arith in
+              let turn : 2 * (k + 1) ≡ 2 * k + 2 = omega arith in
               record {
                 left = qs;
-                is = rw e (n .after);
+                is = rw (turn, e) (n .after);
                 room = rw (e₁, eo, ← v) (f .room);
                 laid = rw (e₁, eo, ← v) (f .laid);
               }
@@ -578,19 +518,6 @@ element-put sys packets ps out o1 ys ep long head ey =
     ∙ ap (λ (t : List ℕ). (key ++ 0x83 ∷ three n ++ two packets) ++ t) (append-nil ys ∙ ey)
     ∙ ap (λ (p : ℕ). (key ++ 0x83 ∷ three n ++ two p) ++ structuresOf sys ps) m
 
--- ---- the sections of a sheet
-
-module _ (sys : ℕ) (ps : List Packet) (s : List ℕ) (h : SheetOf sys ps s) where
-  sheet-count : countIn s ≡ length ps
-  sheet-count = ap countIn (h .whole) ∙ count-back sys ps
-
-  -- section C begins within the sheet
-  pub sheet-begins : 4 + 2 * countIn s ≤ length s
-  sheet-begins =
-      let l : length s ≡ 4 + 2 * length ps + stringBytes ps = ap length (h .whole) ∙ sheet-length sys ps in
-      let c = sheet-count in
-      omega arith
-
 -- ---- 18 and 17
 
 -- 18 is the one refusal of an export
@@ -623,17 +550,18 @@ refused-first : (sys : ℕ) (buffer : List ℕ) (o : Outcome) (r : ElementWritte
 refused-first sys buffer (listed ps) r e n = absurd (n (ap (λ (x : ElementWritten). x .number) e))
 refused-first sys buffer (refused m i) r e n = (e, refl)
 
-module _ (sys : ℕ) (fi : Bool) (s buffer : List ℕ) (p : ℕ) (is : p ≡ countIn s) (m : ElementWritten)
-    (e : (y : System) (ps : List Packet) → SectionsOf y ps (lentB p s) (lentC p s) → m ≡ writtenOf sys (export sys fi ps)) where
+-- from the sections of a sheet, and what is measured of them
+module _ (sys : ℕ) (fi : Bool) (s buffer : List ℕ) {ls ws : List ℕ} (b : ls ≡ locationsIn s) (c : ws ≡ wordsIn s) (m : ElementWritten)
+    (e : (y : System) (ps : List Packet) → SectionsOf y ps ls ws → m ≡ writtenOf sys (export sys fi ps)) where
   abbrev Answers : ElementWritten → List ℕ → Type 0
   Answers r after = (ps : List Packet) → SheetOf sys ps s → Given sys buffer (export sys fi ps) r after
 
   pub not-lined : (m .number ≡ 0 → ⊥) → Answers m buffer
-  not-lined n ps h = refused-first sys buffer (export sys fi ps) m (e (system sys) ps (sections-lent sys ps s h p is)) n
+  not-lined n ps h = refused-first sys buffer (export sys fi ps) m (e (system sys) ps (sections-of b c h)) n
 
   module _ (z : m .number ≡ 0) where
     -- all that are served have lines
-    all-lined : (y : System) (ps : List Packet) → SectionsOf y ps (lentB p s) (lentC p s)
+    all-lined : (y : System) (ps : List Packet) → SectionsOf y ps ls ws
         → (export sys fi ps ≡ listed (served sys fi ps)) × (m ≡ writtenOf sys (listed (served sys fi ps)))
     all-lined y ps h =
         let n : writtenOf sys (export sys fi ps) .number ≡ 0 = ap (λ (x : ElementWritten). x .number) (sym (e y ps h)) ∙ z in
@@ -643,22 +571,22 @@ module _ (sys : ℕ) (fi : Bool) (s buffer : List ℕ) (p : ℕ) (is : p ≡ cou
     -- 17
     pub no-room : (r : ElementWritten) → length buffer < m .bytes → r ≡ writtenOf 0 (refused 17 0) → Answers r buffer
     no-room r over q ps h =
-        let a = all-lined (system sys) ps (sections-lent sys ps s h p is) in
-        let b : m .bytes ≡ length (elementOf sys (served sys fi ps)) = ap (λ (x : ElementWritten). x .bytes) (a .1) in
+        let a = all-lined (system sys) ps (sections-of b c h) in
+        let n : m .bytes ≡ length (elementOf sys (served sys fi ps)) = ap (λ (x : ElementWritten). x .bytes) (a .1) in
         rw (a .0, lt-leb (length (elementOf sys (served sys fi ps))) (length buffer) (omega arith)) (q, refl)
 
     -- the figures of the measure are the element's
-    pub measured : (y : System) (ps : List Packet) → SectionsOf y ps (lentB p s) (lentC p s)
+    pub measured : (y : System) (ps : List Packet) → SectionsOf y ps ls ws
         → (m .packets ≡ length (served sys fi ps)) × (m .bytes ≡ length (elementOf sys (served sys fi ps)))
     measured y ps h =
         let a = all-lined y ps h .1 in
         (ap (λ (x : ElementWritten). x .packets) a, ap (λ (x : ElementWritten). x .bytes) a)
 
     -- and they are small
-    pub measured-small : (ps : List Packet) → SheetOf sys ps s → (m .packets ≤ 512) × (m .bytes < 16777216)
+    pub measured-small : (ps : List Packet) → SheetOf sys ps s → (m .packets ≤ limit) × (m .bytes < 16777216)
     unfolding limit
     measured-small ps h =
-        let a = measured (system sys) ps (sections-lent sys ps s h p is) in
+        let a = measured (system sys) ps (sections-of b c h) in
         let f = h .few in
         let v = served-few sys fi ps in
         let l = structures-short sys fi (system sys) ps (h .sound) in
@@ -666,14 +594,14 @@ module _ (sys : ℕ) (fi : Bool) (s buffer : List ℕ) (p : ℕ) (is : p ≡ cou
         (let g = a .0 in omega arith, let g = a .1 in omega arith)
 
     pub element-written : (ys : List ℕ) → m .bytes ≤ length buffer
-        → ((y : System) (ps : List Packet) → SectionsOf y ps (lentB p s) (lentC p s) → ys ≡ elementOf sys (served sys fi ps))
+        → ((y : System) (ps : List Packet) → SectionsOf y ps ls ws → ys ≡ elementOf sys (served sys fi ps))
         → Answers m (ys ++ drop (m .bytes) buffer)
     element-written ys fit put ps h =
-        let c = sections-lent sys ps s h p is in
-        let a = all-lined (system sys) ps c in
-        let b = measured (system sys) ps c .1 in
+        let v = sections-of b c h in
+        let a = all-lined (system sys) ps v in
+        let n = measured (system sys) ps v .1 in
         rw (a .0, le-leb (length (elementOf sys (served sys fi ps))) (length buffer) (omega arith))
-        (a .1, ap₂ (λ (t : List ℕ) (n : ℕ). t ++ drop n buffer) (put (system sys) ps c) b)
+        (a .1, ap₂ (λ (t : List ℕ) (n : ℕ). t ++ drop n buffer) (put (system sys) ps v) n)
 
 -- ---- the lister's tests
 

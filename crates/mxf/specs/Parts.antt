@@ -10,11 +10,11 @@ use lib.Dec.{eqb}
 use lib.ListN.{length, getD}
 use Rattle.rules.specs.Systems.{System}
 use Rattle.rules.specs.Packet.{Packet}
-use Rattle.rules.specs.Sheet.{allWords, sheetOf}
+use Rattle.rules.specs.Sheet.{limit, allWords, sheetOf}
 use Rattle.rules.specs.Numbers.{Outcome, listed, refused}
 use Rattle.rules.specs.Reading.{bufferOf}
 use Rattle.sheet.specs.Write.{listIn}
-use Rattle.packing1.specs.Fives.{SectionsOf}
+use Rattle.sections.specs.Sections.{SectionsOf}
 use Rattle.mxf.specs.Judging.{twoIn, fourIn, sizeIn, structures}
 use Rattle.mxf.specs.Reading.{readOf}
 use Rattle.mxf.specs.declared.ElementRead.{ElementRead}
@@ -63,7 +63,7 @@ pub record Shown (n : ℕ) (s out : List ℕ) : Type 0 where
 pub record Sized (sys : ℕ) (fi : Bool) (n : ℕ) (s out : List ℕ) : Type 0 where
   pub known : sys ≤ 3
   pub judged : Judged sys fi n s
-  pub few : n ≤ 512
+  pub few : n ≤ limit
   pub short : length (allWords (packetsOfStructures sys fi n s)) < 65536
   pub room : length out ≡ length (sheetOf sys (packetsOfStructures sys fi n s))
 

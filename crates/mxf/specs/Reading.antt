@@ -20,7 +20,7 @@ use Rattle.mxf.specs.declared.ElementRead.{ElementRead}
 abbrev pub hasRoom : ℕ → ℕ → List Packet → Bool
 hasRoom sys room ps = leb (length (allWords ps)) 65535 && leb (length (sheetOf sys ps)) room
 
--- 5 at place 512, then 17
+-- 5 at the limit's place, then 17
 abbrev pub lastTests : ℕ → ℕ → List Packet → Outcome
 lastTests sys room ps = cond (leb (length ps) limit) (unless 17 (hasRoom sys room ps) (listed ps)) (refused 5 limit)
 

@@ -18,9 +18,6 @@ ghost use Rattle.mxf.specs.Reading.{lastTests, readOf};
 ghost use Rattle.mxf.specs.Demands.{Reads};
 ghost use Rattle.mxf.specs.Parts.{packetsOfStructures, Judged, Shown, Sized, Answers};
 
-// "P is at most 512."
-const LIMIT: u64 = 512;
-
 // "FI is the call's, 0 for 1080".
 fn fi_of(system: u64, fi: bool) -> u16
     ensures { λ r. ⌜ r ≡ fiRead system fi ⌝ }
@@ -94,14 +91,14 @@ fn write_sections(system: u64, fi: bool, packets: usize, s: &[u8], out: &mut [u1
     write_packets(packets, s, &mut out[mid + 1..]);
 }
 
-// 5 at place 512, then 17, "W over 65,535 too", of an element that has been judged: only then is the sheet written.
+// 5 at the limit's place, then 17, "W over 65,535 too", of an element that has been judged: only then is the sheet written.
 fn written(system: u64, fi: bool, j: ElementRead, e: &[u8], sheet: &mut [u16]) -> ElementRead
     requires { ⌜ (system ≤ 3) × (j ≡ readOf system (judged system fi (now e))) × (j .number ≡ 0) ⌝ }
     ensures { λ r. ⌜ Answers system (now (sheet .entry))
         (andThen (judged system fi (now (e .entry))) (lastTests system (length (now (sheet .entry))))) r (now (sheet .exit)) ⌝ }
 {
-    if j.packets > LIMIT {
-        return refusal(5, LIMIT);
+    if j.packets > frame::LIMIT as u64 {
+        return refusal(5, frame::LIMIT as u64);
     }
     let packets = j.packets as usize;
     let n = j.numbers as usize;

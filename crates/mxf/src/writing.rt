@@ -2,8 +2,10 @@
 // and the element is written last, so that on a refusal its buffer is unchanged.
 use crate::ElementWritten;
 use frame::Line;
+use packet::low;
 use packet::low_byte;
-use sheet::wide;
+use sections::section_b;
+use sections::section_c;
 ghost use Prim.Native.Nat.{ℕ, _+_, _*_, _≤_, _<_};
 ghost use mathlib.Core.Path.{_≡_};
 ghost use mathlib.Core.List.{List, _∷_, _++_, map};
@@ -15,19 +17,12 @@ ghost use Rattle.rules.specs.Packet.{Packet};
 ghost use Rattle.rules.specs.Numbers.{refused};
 ghost use Rattle.rules.specs.Laying.{low};
 ghost use Rattle.rules.specs.Demands.{SheetOf};
-ghost use Rattle.packing1.specs.Fives.{SectionsOf};
+ghost use Rattle.sections.specs.Sections.{SectionsOf};
 ghost use Rattle.mxf.specs.Element.{two, three, four, key, coding, bare, structure, elementOf};
 ghost use Rattle.mxf.specs.Served.{serves as servesFlags, served};
 ghost use Rattle.mxf.specs.Writing.{export, withRoom, writtenOf, elementIn};
 ghost use Rattle.mxf.specs.Demands.{Writes};
 ghost use Rattle.mxf.specs.Parts.{Sections};
-
-// "The low-order 8-bits from the source ANC packet" (004, 7.2).
-fn low_of(w: u16) -> u8
-    ensures { λ r. ⌜ r ≡ low w ⌝ }
-{
-    (w % 256) as u8
-}
 
 // On refusal the later figures are 0.
 fn refusal(number: u64, place: u64) -> ElementWritten
@@ -85,14 +80,14 @@ fn measure(system: u64, fi: bool, ls: &[u16], ws: &[u16]) -> ElementWritten
     }
 }
 
-// The samples of words, "from DID to the last user word, without CS".
+// The samples of words, "from DID to the last user word, without CS": "The low-order 8-bits from the source ANC packet" (004, 7.2).
 fn put_samples(ws: &[u16], out: &mut [u8])
     requires { ⌜ length (now out) ≡ length (now ws) ⌝ }
     ensures { λ _. ⌜ now (out .exit) ≡ map low (now (ws .entry)) ⌝ }
 {
     let mut i = 0;
     while i < ws.len() {
-        out[i] = low_of(ws[i]);
+        out[i] = low(ws[i]);
         i += 1;
     }
 }
@@ -208,9 +203,8 @@ fn write_list(system: u64, fi: bool, sheet: &[u16], element: &mut [u8]) -> Eleme
         → (r ≡ writtenOf system (withRoom system (length (now (element .entry))) (export system fi ps)))
         × (now (element .exit) ≡ elementIn system (now (element .entry)) (withRoom system (length (now (element .entry))) (export system fi ps)))) ⌝ }
 {
-    let w = 3 + 2 * wide(sheet[2]);
-    let ls = &sheet[3..w];
-    let ws = &sheet[w + 1..];
+    let ls = section_b(sheet);
+    let ws = section_c(sheet);
     let m = measure(system, fi, ls, ws);
     if m.number != 0 {
         return m;

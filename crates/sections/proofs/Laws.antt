@@ -59,12 +59,13 @@ module _ (s : List ℕ) where
   c-whole p is = rest-part (4 + 2 * p) s ∙ ap (λ (n : ℕ). drop (4 + 2 * n) s) is
 
 -- the sections of a list's sheet are the list's
-pub sections-of : (sys : ℕ) (ps : List Packet) (s : List ℕ) → SheetOf sys ps s → SectionsOf (system sys) ps (locationsIn s) (wordsIn s)
-sections-of sys ps s h = record {
+pub sections-of : {sys : ℕ} {ps : List Packet} {s ls ws : List ℕ} → ls ≡ locationsIn s → ws ≡ wordsIn s → SheetOf sys ps s
+    → SectionsOf (system sys) ps ls ws
+sections-of {sys} {ps} b c h = record {
   last = facts-of sys (h .known) .last;
   sound = h .sound;
-  sectionB = ap locationsIn (h .whole) ∙ locations-back sys ps;
-  sectionC = ap wordsIn (h .whole) ∙ words-back sys ps;
+  sectionB = b ∙ ap locationsIn (h .whole) ∙ locations-back sys ps;
+  sectionC = c ∙ ap wordsIn (h .whole) ∙ words-back sys ps;
 }
 
 -- ---- the packet at a place of section C

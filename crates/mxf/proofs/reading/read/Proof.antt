@@ -7,7 +7,8 @@ use Rattle.rules.specs.Systems.{known}
 use Rattle.mxf.specs.Judging.{judged}
 use Rattle.mxf.specs.Reading.{readOf}
 use Rattle.rules.proofs.Blocks.{known-low}
-use Rattle.mxf.proofs.ReadingLaws.{last-is, is-unknown, is-known, answered, unknown-system, known-system, refused-before}
+use Rattle.frame.proofs.Laws.{last-is, is-unknown, is-known}
+use Rattle.mxf.proofs.ReadingLaws.{answered, unknown-system, known-system, refused-before}
 use Rattle.mxf.proofs.reading.read.Statement.{statement}
 use Rattle.mxf.proofs.reading.read.Tie as tie
 

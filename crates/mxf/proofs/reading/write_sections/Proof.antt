@@ -5,7 +5,7 @@ use mathlib.Core.Path.{_≡_}
 use native.Mathlib.Omega.{arith}
 use lib.ListN.{length, take, drop, set, length-set}
 use borrow.Author.Needs.{needs}
-use Rattle.rules.specs.Sheet.{allWords}
+use Rattle.rules.specs.Sheet.{limit, allWords}
 use Rattle.sheet.proofs.Filling.{threeOf, backOf}
 use Rattle.mxf.specs.Parts.{packetsOfStructures, Shown}
 use Rattle.mxf.proofs.ReadingLaws.{sections-room, before-long, words-lent, sections-long, sections-written}
@@ -38,15 +38,18 @@ slice-write-out-2 : tie.Need-slice-write-out-2
 slice-write-out-2 c = let r = room (c .before .before) in simp length-set (omega arith)
 
 cast-out-2 : tie.Need-cast-out-2
+unfolding limit
 cast-out-2 c = search needs
 
 slice-write-out-3 : tie.Need-slice-write-out-3
 slice-write-out-3 c = let r = room (c .before .before) in simp length-set (omega arith)
 
 mul-mid : tie.Need-mul-mid
+unfolding limit
 mul-mid c = search needs
 
 add-mid : tie.Need-add-mid
+unfolding limit
 add-mid c = search needs
 
 sub-write-locations : tie.Need-sub-write-locations
@@ -77,15 +80,18 @@ cast-out-3 c =
     omega arith
 
 mul-out : tie.Need-mul-out
+unfolding limit
 mul-out c = search needs
 
 slice-write-out-4 : tie.Need-slice-write-out-4
 slice-write-out-4 c = let d = c .before .before in let l = long d in let r = room (d .before .before .before .before) in omega arith
 
 add-write-packets : tie.Need-add-write-packets
+unfolding limit
 add-write-packets c = search needs
 
 mul-write-packets : tie.Need-mul-write-packets
+unfolding limit
 mul-write-packets c = search needs
 
 sub-write-packets : tie.Need-sub-write-packets

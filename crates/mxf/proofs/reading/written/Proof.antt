@@ -7,6 +7,7 @@ use lib.ListN.{length, take}
 use lib.Seq.{length-take-le}
 use borrow.Author.Needs.{needs}
 use borrow.Author.Tests.{ltb-true, ltb-false}
+use Rattle.rules.specs.Sheet.{limit}
 use Rattle.mxf.proofs.ReadingLaws.{packets-are, numbers-are, head-there, too-many, no-room, sized, all-read}
 use Rattle.mxf.proofs.reading.written.Statement.{statement}
 use Rattle.mxf.proofs.reading.written.Tie as tie
@@ -31,6 +32,7 @@ refusal-requires : tie.Need-refusal-requires
 refusal-requires c κs = search needs
 
 returns : tie.Need-returns
+unfolding limit
 returns c =
     let b = c .before .before .before .before .before in
     let a = b .args in
@@ -50,6 +52,7 @@ refusal-requires-2 : tie.Need-refusal-requires-2
 refusal-requires-2 c κs = search needs
 
 returns-2 : tie.Need-returns-2
+unfolding limit
 returns-2 c =
     let d = c .before .before in
     let b = d .before .before .before .before in
@@ -76,6 +79,7 @@ slice-aggregate-write-sections c =
     sym (length-take-le _ (d .before .before .before .before .before .before .args .sheet .now) (fits d))
 
 write-sections-requires : tie.Need-write-sections-requires
+unfolding limit
 write-sections-requires c κs =
     let d = c .before .before in
     let b = d .before .before .before .before .before .before in
@@ -87,6 +91,7 @@ same-length : tie.Need-same-length
 same-length c = search needs
 
 returns-3 : tie.Need-returns-3
+unfolding limit
 returns-3 c =
     let w = c .before .before in
     let d = w .before .before .before in

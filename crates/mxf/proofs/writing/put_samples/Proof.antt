@@ -8,7 +8,7 @@ use lib.ListN.{length, drop, length-set, length-map}
 use lib.Seq.{sets}
 use borrow.Author.Needs.{needs}
 use Rattle.rules.specs.Laying.{low}
-use Rattle.packing1.proofs.Laws.{low-turn, low-end}
+use Rattle.sections.proofs.Laws.{low-turn, low-end}
 use Rattle.mxf.proofs.WritingLaws.{over-all}
 use Rattle.mxf.proofs.writing.put_samples.Statement.{statement}
 use Rattle.mxf.proofs.writing.put_samples.Tie as tie
@@ -26,14 +26,14 @@ loop-holds c =
     let l = length-map w low in
     (omega arith, refl, over-all (map low w) (a .args .out .now) (a .pre ∙ sym l))
 
-mul-low-of : tie.Need-mul-low-of Inv-loop μ-loop
-mul-low-of c = search needs
+mul-low : tie.Need-mul-low Inv-loop μ-loop
+mul-low c = search needs
 
-shared-slice-read-low-of : tie.Need-shared-slice-read-low-of Inv-loop μ-loop
-shared-slice-read-low-of c = search needs
+shared-slice-read-low : tie.Need-shared-slice-read-low Inv-loop μ-loop
+shared-slice-read-low c = search needs
 
-low-of-requires : tie.Need-low-of-requires Inv-loop μ-loop
-low-of-requires c κs = search needs
+low-requires : tie.Need-low-requires Inv-loop μ-loop
+low-requires c κs = search needs
 
 slice-write-out : tie.Need-slice-write-out Inv-loop μ-loop
 slice-write-out c = search needs
@@ -49,7 +49,7 @@ loop-again c =
     let d = c .before .before .before in (
       omega arith,
       length-set (d .loop .out) (d .loop .i) _ ∙ d .loop .inv .1,
-      low-turn _ (d .loop .out) _ (d .loop .i) (c .before .before .loop-test .taken) (c .low-of .ensures) (d .loop .inv .2),
+      low-turn _ (d .loop .out) _ (d .loop .i) (c .before .before .loop-test .taken) (c .low .ensures) (d .loop .inv .2),
     )
 
 same-length : tie.Need-same-length Inv-loop μ-loop
@@ -65,9 +65,9 @@ put-samples-spec =
     Inv-loop
     μ-loop
     loop-holds
-    mul-low-of
-    shared-slice-read-low-of
-    low-of-requires
+    mul-low
+    shared-slice-read-low
+    low-requires
     slice-write-out
     add-i
     loop-less
