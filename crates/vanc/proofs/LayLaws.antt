@@ -16,7 +16,7 @@ use Rattle.rules.specs.Base.{sum, joined}
 use Rattle.rules.specs.Systems.{System, known, system}
 use Rattle.rules.specs.Packet.{Packet}
 use Rattle.rules.specs.Danc.{written, string, stringBytes, packetsOf}
-use Rattle.rules.specs.Sheet.{systemIn, countIn}
+use Rattle.rules.specs.Sheet.{systemIn, locationsIn, wordsIn}
 use Rattle.rules.specs.Blocks.{shift, width, runs, blockSizes, areaSize, scatter}
 use Rattle.rules.specs.Packing1.{flat, packs, packsOf}
 use Rattle.rules.specs.Packing2.{fill, longPacks, stringRoom, longCount}
@@ -37,9 +37,10 @@ use Rattle.rules.proofs.Laying.{lays-outcome, refuses-packing, refuses-shape, r
 use Rattle.frame.specs.Systems.{figuresOf}
 use Rattle.frame.specs.Bytes.{areaWith}
 use Rattle.frame.specs.declared.Figures.{Figures}
-use Rattle.frame.proofs.Laws.{each-system}
-use Rattle.packing1.specs.Fives.{SectionsOf, LaysFives, LaysString}
-use Rattle.packing1.proofs.Laws.{lentB, lentC, sections-lent}
+use Rattle.frame.proofs.Laws.{each-system, area-is}
+use Rattle.sections.specs.Sections.{SectionsOf, LaysString}
+use Rattle.sections.proofs.Laws.{sections-of}
+use Rattle.packing1.specs.Fives.{LaysFives}
 use Rattle.packing2.specs.Long.{Padded, longFits, longAfter, CountOf}
 use Rattle.vanc.specs.Lay.{LaysInto, lastTest, LaysList}
 
@@ -203,21 +204,21 @@ module _ (k : ℕ) (t : Tested) (s area : List ℕ) (one : k ≡ 1) (g : Figures
             subst (λ (j : ℕ). Given j sys ps area r area) (sym one) (too-full 1 sys ps area r (omega arith) q);
       }
 
-  pub done1 : (p : ℕ) → p ≡ countIn s → (after : List ℕ) → t .packs ≤ g .packs
-      → LaysInto 1 (t .system) (lentB p s) (lentC p s) area after
+  pub done1 : {ls ws : List ℕ} → ls ≡ locationsIn s → ws ≡ wordsIn s → (after : List ℕ) → t .packs ≤ g .packs
+      → LaysInto 1 (t .system) ls ws area after
       → LaysList k t s area (success (t .packs) (t .bytes)) after
   unfolding packsLaid
-  done1 p is after h v =
+  done1 {ls} {ws} b c after h v =
       record {
         laid =
             λ sys ps a e.
             let w = room1 sys ps t e g x in
             let f : fits 1 (blockSizes (system sys)) ps ≡ true = le-leb (needed 1 ps) (capacity 1 (blockSizes (system sys))) (omega arith) in
-            let u = subst (λ (n : ℕ). LaysInto 1 n (lentB p s) (lentC p s) area after) (its sys ps t e g x) v in
+            let u = subst (λ (n : ℕ). LaysInto 1 n ls ws area after) (its sys ps t e g x) v in
             subst (λ (j : ℕ). Given j sys ps area (success (t .packs) (t .bytes)) after) (sym one)
             (within-room 1 sys ps area (success (t .packs) (t .bytes)) after f
             (ap (λ (z : Tested). success (z .packs) (z .bytes)) e)
-            (u .laid ps (a .sheet .known) (a .own) (sections-lent sys ps s (a .sheet) p is) f));
+            (u .laid ps (a .sheet .known) (a .own) (sections-of b c (a .sheet)) f));
       }
 
 -- packing 2
@@ -235,23 +236,23 @@ module _ (k : ℕ) (t : Tested) (s area : List ℕ) (other : k ≡ 1 → ⊥) (g
             subst (λ (j : ℕ). Given j sys ps area r area) (sym (two k (a .packing) other)) (too-full 2 sys ps area r (omega arith) q);
       }
 
-  pub done2 : (p : ℕ) → p ≡ countIn s → (after : List ℕ) (n : ℕ) → t .bytes ≤ g .«string_bytes»
-      → LaysInto 2 (t .system) (lentB p s) (lentC p s) area after
+  pub done2 : {ls ws : List ℕ} → ls ≡ locationsIn s → ws ≡ wordsIn s → (after : List ℕ) (n : ℕ) → t .bytes ≤ g .«string_bytes»
+      → LaysInto 2 (t .system) ls ws area after
       → CountOf (t .bytes) n → LaysList k t s area (success n (t .bytes)) after
   unfolding packsLaid needed capacity
-  done2 p is after n h v c =
+  done2 {ls} {ws} b c after n h v counted =
       record {
         laid =
             λ sys ps a e.
             let w = room2 sys ps t e g x in
             let f : fits 2 (blockSizes (system sys)) ps ≡ true = le-leb (needed 2 ps) (capacity 2 (blockSizes (system sys))) (omega arith) in
-            let u = subst (λ (m : ℕ). LaysInto 2 m (lentB p s) (lentC p s) area after) (its sys ps t e g x) v in
+            let u = subst (λ (m : ℕ). LaysInto 2 m ls ws area after) (its sys ps t e g x) v in
             let m : n ≡ packsLaid 2 (blockSizes (system sys)) ps =
-            c sys (a .sheet .known) (omega arith) ∙ ap (longCount (blockSizes (system sys))) (w .1) in
+            counted sys (a .sheet .known) (omega arith) ∙ ap (longCount (blockSizes (system sys))) (w .1) in
             subst (λ (j : ℕ). Given j sys ps area (success n (t .bytes)) after) (sym (two k (a .packing) other))
             (within-room 2 sys ps area (success n (t .bytes)) after f
             (ap₂ success m (w .1))
-            (u .laid ps (a .sheet .known) (a .own) (sections-lent sys ps s (a .sheet) p is) f));
+            (u .laid ps (a .sheet .known) (a .own) (sections-of b c (a .sheet)) f));
       }
 
 -- ---- the tests before it
@@ -296,9 +297,8 @@ pub record Past (k : ℕ) (s : List ℕ) (t : Tested) (g : Figures) : Type 0 whe
 
 pub past-three : (k : ℕ) (s : List ℕ) (t : Tested) (g : Figures) (x : ℕ) → isPacking k ≡ true → Tests s t → (t .number ≡ 2 → ⊥)
     → (t .number ≡ 3 → ⊥) → x ≡ systemIn s → g ≡ figuresOf x → Past k s t g
-unfolding figuresOf
 past-three k s t g x pk w n2 n3 is gx =
-    record { packing = pk; tests = w; two = n2; three = n3; area = ap (λ (h : Figures). h .area) (gx ∙ ap figuresOf is) }
+    record { packing = pk; tests = w; two = n2; three = n3; area = area-is (systemIn s) g (gx ∙ ap figuresOf is) }
 
 module _ (k : ℕ) (s area : List ℕ) (t : Tested) (g : Figures) (p : Past k s t g) where
   -- 4

@@ -15,7 +15,7 @@ use Rattle.rules.specs.Lister.{testedOf}
 use Rattle.rules.specs.Demands.{Asked}
 use Rattle.rules.specs.declared.Laid.{Laid}
 use Rattle.rules.specs.declared.Tested.{Tested}
-use Rattle.packing1.specs.Fives.{SectionsOf}
+use Rattle.sections.specs.Sections.{SectionsOf}
 
 -- the frame's own area afterwards, for every list that the sections are of and that fits
 pub record LaysInto (k sys : ℕ) (ls ws area after : List ℕ) : Type 0 where

@@ -4,10 +4,9 @@ use rules::Laid;
 use rules::Tested;
 use sheet::wide;
 ghost use mathlib.Core.Path.{_≡_};
-ghost use mathlib.Core.Bool.{true};
 ghost use Rattle.rules.specs.Systems.{system};
 ghost use Rattle.rules.specs.Numbers.{refused};
-ghost use Rattle.rules.specs.Laying.{shaped, laidOf};
+ghost use Rattle.rules.specs.Laying.{laidOf};
 ghost use Rattle.rules.specs.Demands.{Lays};
 ghost use Rattle.vanc.specs.Lay.{LaysInto, LaysList};
 
@@ -37,7 +36,7 @@ fn lay2(system: u64, ls: &[u16], ws: &[u16], area: &mut [u8])
     ensures { λ _. ⌜ LaysInto 2 system (now (ls .entry)) (now (ws .entry)) (now (area .entry)) (now (area .exit)) ⌝ }
 {
     let mut s = [0xFFu8; 9000];
-    packing1::string_of(ls, ws, &mut s);
+    sections::string_of(ls, ws, &mut s);
     let mut us = [0xFFu8; 9360];
     packing2::lay_long(system, &s, ws.len(), &mut us);
     frame::spread(system, &us, area);
@@ -45,13 +44,11 @@ fn lay2(system: u64, ls: &[u16], ws: &[u16], area: &mut [u8])
 
 // "12 | over the packs (packing 1) or string bytes (packing 2)", the last test: only then is the area written.
 fn lay_list(packing: u64, t: Tested, sheet: &[u16], area: &mut [u8]) -> Laid
-    requires { ⌜ shaped (now sheet) ≡ true ⌝ }
     ensures { λ r. ⌜ LaysList packing t (now (sheet .entry)) (now (area .entry)) r (now (area .exit)) ⌝ }
 {
     let figures = frame::figures_of(t.system);
-    let w = 3 + 2 * wide(sheet[2]);
-    let ls = &sheet[3..w];
-    let ws = &sheet[w + 1..];
+    let ls = sections::section_b(sheet);
+    let ws = sections::section_c(sheet);
     if packing == 1 {
         if t.packs > figures.packs as u64 {
             return refusal(12, 0);

@@ -27,7 +27,8 @@ shape-of c =
 -- and with the figures of its system
 past : (c : tie.After-figures-of)
     → let t : tie.After-test = c .before .before .before .before .before .before .before in
-    Past (t .before .before .before .before .args .packing) (t .before .before .before .before .args .sheet .now) (t .test .result) (c .figures-of .result)
+    let a = t .before .before .before .before .args in
+    Past (a .packing) (a .sheet .now) (t .test .result) (c .figures-of .result)
 past c =
     let e : tie.Else4 = c .before .before .before in
     let t : tie.After-test = e .before .before .before .before in
@@ -80,7 +81,7 @@ returns-4 c =
     no-list _ _ _ _ _ (past (l .before .before)) (l .if5 .left) _ (c .before .if6 .taken) (c .refusal4 .ensures)
 
 lay-list-requires : tie.Need-lay-list-requires
-lay-list-requires c κs = shape-of (c .before .before .before .before .before .before .before .before)
+lay-list-requires c κs = search needs
 
 same-length : tie.Need-same-length
 same-length c = search needs
