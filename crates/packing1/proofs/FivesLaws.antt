@@ -357,7 +357,8 @@ module _ {ls ws us₀ us : List ℕ} {k at o end : ℕ} (more : k + 1 < length l
     needs-next : (n : Next y ls ws k at end (f .left)) → 5 * sum (map packsOf (f .left)) ≡ 5 + 5 * ((end - at) / 4) + 5 * sum (map packsOf (n .rest))
     needs-next n =
         let z = size-next n in
-        let s : sum (map packsOf (f .left)) ≡ packsOf (n .packet) + sum (map packsOf (n .rest)) = ap (λ (t : List Packet). sum (map packsOf t)) (n .is) in
+        let s : sum (map packsOf (f .left)) ≡ packsOf (n .packet) + sum (map packsOf (n .rest)) =
+        ap (λ (t : List Packet). sum (map packsOf t)) (n .is) in
         omega arith
 
     five-turn : y .last < 2047 → (n : Next y ls ws k at end (f .left)) {h0 h1 : ℕ} {after : List ℕ} → h0 ≡ headByte0 (getD ls k 0)
@@ -407,7 +408,8 @@ module _ {ls ws us₀ us : List ℕ} {k at o end : ℕ} (more : k + 1 < length l
     }
 
 -- all are laid
-pub fives-done : {ls ws us₀ us : List ℕ} {k at o : ℕ} → length us₀ ≡ 9360 → length ls ≤ k + 1 → FivesSoFar ls ws us₀ us k at o → LaysFives ls ws us₀ us
+pub fives-done : {ls ws us₀ us : List ℕ} {k at o : ℕ} → length us₀ ≡ 9360 → length ls ≤ k + 1 → FivesSoFar ls ws us₀ us k at o
+    → LaysFives ls ws us₀ us
 fives-done {ls} {ws} {us₀} {us} {k} {at} {o} long end so = record { laid = λ y ps h r. done y ps r (so .of y ps h r) }
   where
     done : (y : System) (ps : List Packet) → 5 * sum (map packsOf ps) ≤ 9360 → FivesLeft y ps ls ws us₀ us k at o
