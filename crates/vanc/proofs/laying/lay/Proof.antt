@@ -27,7 +27,8 @@ shape-of c =
 -- and with the figures of its system
 past : (c : tie.After-figures-of)
     → let t : tie.After-test = c .before .before .before .before .before .before .before in
-    Past (t .before .before .before .before .args .packing) (t .before .before .before .before .args .sheet .now) (t .test .result) (c .figures-of .result)
+    let a = t .before .before .before .before .args in
+    Past (a .packing) (a .sheet .now) (t .test .result) (c .figures-of .result)
 past c =
     let e : tie.Else4 = c .before .before .before in
     let t : tie.After-test = e .before .before .before .before in
