@@ -322,12 +322,13 @@ pub string-laid : (y : System) (room left i : ℕ) (s : List ℕ) (ps : List Pac
 unfolding stringRow
 string-laid y room left i s ps h e =
     let l =
-    row-laid (stringRow y room) danc (λ (x : Item). x .packet) (Good y) Bytes (λ x r b. later-bytes (danc x) r b) (string-uncut y room) left i s ps h e in
+    row-laid (stringRow y room) danc (λ (x : Item). x .packet) (Good y) Bytes (λ x r b. later-bytes (danc x) r b) (string-uncut y room)
+    left i s ps h e in
     record { items = l .items; tail = l .tail; packets = l .packets; whole = l .whole; good = l .good; ends = l .ends; few = l .few }
 
 -- from one list only
-pub string-unique : (y : System) → y .last < 2047 → (room left : ℕ) (s : List ℕ) (ps qs : List Packet) → StringOf y room left s ps → StringOf y room left s qs
-    → ps ≡ qs
+pub string-unique : (y : System) → y .last < 2047 → (room left : ℕ) (s : List ℕ) (ps qs : List Packet) → StringOf y room left s ps
+    → StringOf y room left s qs → ps ≡ qs
 string-unique y hm room left s ps qs v w =
     let a = string-read y hm room left 0 (v .items) (v .tail) (v .good) (v .few) (v .ends) in
     let b = string-read y hm room left 0 (w .items) (w .tail) (w .good) (w .few) (w .ends) in
