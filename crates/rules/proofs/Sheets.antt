@@ -277,11 +277,8 @@ Sixteen s = (i : ℕ) → getD s i 0 < 65536
 
 word-small : (b : ℕ) → b < 256 → word b < 1024
 unfolding word parity
-word-small b h = go (ones b % 2) (bit (ones b))
+word-small b h = go (ones b % 2) (omega arith)
   where
-    bit : (n : ℕ) → n % 2 < 2
-    bit n = omega arith
-
     go : (p : ℕ) → p < 2 → b + 256 * p + 512 * (1 - p) < 1024
     go p k = omega arith
 

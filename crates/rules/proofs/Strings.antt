@@ -20,7 +20,7 @@ use Rattle.rules.specs.Danc.{Item, Good, packetsOf, header, danc, string
 use Rattle.rules.specs.Numbers.{listed, packetsIn}
 use Rattle.rules.specs.Reading.{lineIn, lineOf, flagsOf, packetOfBytes, lineFault, bytesFault, stringFault, stringEnds, stringRow}
 use Rattle.rules.proofs.Basics.{never, neither, second-false, take-bytes, later-bytes}
-use Rattle.rules.proofs.Rows.{row-read, row-laid}
+use Rattle.rules.proofs.Rows.{Anything, row-read, row-laid}
 
 -- ---- header bytes: what is written comes back
 
@@ -286,10 +286,6 @@ string-uncut y room s h z = go (ltb (length s) 7) refl (ltb (length s) (getD s 5
         (itemOf 0 s, refl, w .0, w .1)
 
 -- ---- a string
-
--- what may follow a packet of a string
-abbrev Anything : List ℕ → Type 0
-Anything s = Unit {0}
 
 -- what is laid is read, with an end behind it
 pub string-read : (y : System) → y .last < 2047 → (room left i : ℕ) (xs : List Item) (tail : List ℕ) → All (Good y) xs → length xs ≤ left

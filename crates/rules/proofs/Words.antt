@@ -20,7 +20,7 @@ use Rattle.rules.specs.Sheet.{allWords}
 use Rattle.rules.specs.Numbers.{listed, refused, packetsIn}
 use Rattle.rules.specs.Laying.{isWord, areWords, flagged, low, dcIn, wordsFault, packetOfWords, noWords, wordRow, packetsOfWords}
 use Rattle.rules.proofs.Basics.{never, both}
-use Rattle.rules.proofs.Rows.{row-read, row-laid, row-enough, row-fault}
+use Rattle.rules.proofs.Rows.{Anything, row-read, row-laid, row-enough, row-fault}
 
 -- ---- a byte's word
 
@@ -30,10 +30,7 @@ low-of b p h k = omega arith
 -- the low byte of a byte's word is the byte
 pub low-word : (b : ℕ) → b < 256 → low (word b) ≡ b
 unfolding word parity
-low-word b h = low-of b (ones b % 2) h (bit (ones b))
-  where
-    bit : (n : ℕ) → n % 2 < 2
-    bit n = omega arith
+low-word b h = low-of b (ones b % 2) h (omega arith)
 
 is-word : (b : ℕ) → b < 256 → isWord (word b) ≡ true
 unfolding isWord
@@ -223,10 +220,6 @@ words-uncut sys (x ∷ y ∷ z ∷ a ∷ b ∷ n ∷ t) h q =
 -- a list without its locations
 abbrev pub bares : List Packet → List Packet
 bares ps = map bare ps
-
--- nothing follows section C
-abbrev Anything : List ℕ → Type 0
-Anything s = Unit {0}
 
 -- what is laid is read: with room for its packets
 read-within : (y : System) (ps : List Packet) (left : ℕ) → All (Sound y) ps → length ps ≤ left
