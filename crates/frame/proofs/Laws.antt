@@ -46,7 +46,7 @@ known-figures =
 
 -- the figures that are found are the system's
 module _ (sys : ℕ) (x : Figures) (found : x ≡ figuresOf sys) where
-  sequences-is : x .sequences ≡ system sys .sequences
+  pub sequences-is : x .sequences ≡ system sys .sequences
   unfolding figuresOf
   sequences-is = ap (λ (z : Figures). z .sequences) found
 

@@ -21,7 +21,7 @@ use Rattle.frame.specs.Systems.{figuresOf}
 use Rattle.frame.specs.Bytes.{fitsArea, collected, bytesAfter, areaWith}
 use Rattle.frame.specs.Moves.{Move, move, moved, four, rowOut, rowIn, rowsOut, rowsIn}
 use Rattle.frame.specs.declared.Figures.{Figures}
-use Rattle.frame.proofs.Laws.{each-system, unknown-figures, known-figures}
+use Rattle.frame.proofs.Laws.{each-system, sequences-is, area-is, is-unknown, is-known}
 
 -- ---- runs as moves
 
@@ -93,15 +93,13 @@ rows-of =
 
 -- a system whose figures have no sequence has no area
 pub no-system : (sys : ℕ) (f : Figures) (area : List ℕ) → f ≡ figuresOf sys → f .sequences ≡ 0 → fitsArea sys area ≡ false
-unfolding figuresOf
-no-system sys f area e z = rw (unknown-figures sys (sym (ap (λ (g : Figures). g .sequences) e) ∙ z))
+no-system sys f area e z = rw (is-unknown sys f e z)
 
 -- an area of another length is not the system's
 pub other-length : (sys : ℕ) (f : Figures) (area : List ℕ) → f ≡ figuresOf sys → (length area ≡ f .area → ⊥) → fitsArea sys area ≡ false
-unfolding figuresOf
 other-length sys f area e n =
     second-false (known sys) (eqb (length area) (areaSize (system sys)))
-    (ne-eqb (length area) (areaSize (system sys)) (λ q. n (q ∙ sym (ap (λ (g : Figures). g .area) e))))
+    (ne-eqb (length area) (areaSize (system sys)) (λ q. n (q ∙ sym (area-is sys f e))))
 
 -- then nothing is taken out of it, and nothing is laid
 pub none-out : (sys : ℕ) (area us : List ℕ) → fitsArea sys area ≡ false → (0 ≡ collected sys area) × (us ≡ bytesAfter sys area us)
@@ -123,10 +121,7 @@ pub record Own (sys n : ℕ) (area : List ℕ) : Type 0 where
 -- past the tests of a call it is so
 pub own-area : (sys : ℕ) (f : Figures) (area : List ℕ) → f ≡ figuresOf sys → (f .sequences ≡ 0 → ⊥) → length area ≡ f .area
     → Own sys (f .sequences) area
-unfolding figuresOf
-own-area sys f area e z l =
-    let c = ap (λ (g : Figures). g .sequences) e in
-    record { isKnown = known-figures sys (λ q. z (c ∙ q)); count = c; long = l ∙ ap (λ (g : Figures). g .area) e }
+own-area sys f area e z l = record { isKnown = is-known sys f e z; count = sequences-is sys f e; long = l ∙ area-is sys f e }
 
 module _ (sys n : ℕ) (area : List ℕ) (o : Own sys n area) where
   -- it is laid in rows

@@ -258,7 +258,8 @@ module _ {ls ws us₀ us : List ℕ} {k at o end : ℕ} (more : k + 1 < length l
     }
 
 -- all are laid
-pub fives-done : {ls ws us₀ us : List ℕ} {k at o : ℕ} → length us₀ ≡ 9360 → length ls ≤ k + 1 → FivesSoFar ls ws us₀ us k at o → LaysFives ls ws us₀ us
+pub fives-done : {ls ws us₀ us : List ℕ} {k at o : ℕ} → length us₀ ≡ 9360 → length ls ≤ k + 1 → FivesSoFar ls ws us₀ us k at o
+    → LaysFives ls ws us₀ us
 fives-done {ls} {ws} {us₀} {us} {k} {at} {o} long end so = record { laid = λ y ps h r. done y ps r (so .of y ps h r) }
   where
     done : (y : System) (ps : List Packet) → 5 * sum (map packsOf ps) ≤ 9360 → FivesLeft y ps ls ws us₀ us k at o

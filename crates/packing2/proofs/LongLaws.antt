@@ -10,7 +10,8 @@ use native.Mathlib.Nat.{add-zero, zero-add}
 use native.Mathlib.Numerals.{add-one}
 use native.Mathlib.Omega.{arith}
 use lib.Dec.{eqb, ltb, leb}
-use lib.ListN.{length, getD, take, drop, set, replicate, length-take, length-drop, length-replicate, getD-replicate, take-append-drop, drop-of-length-le}
+use lib.ListN.{length, getD, take, drop, set, replicate, length-take, length-drop, length-replicate, getD-replicate, take-append-drop}
+use lib.ListN.{drop-of-length-le}
 use lib.Seq.{sets, sets-eq, paste, paste-zero, paste-suc, getD-drop, drop-cons, drop-drop, drop-nil, drop-append-le, length-take-le}
 use borrow.Author.Tests.{eqb-true, eqb-false, leb-true, leb-false, ltb-true, ltb-false, lt-ltb, le-leb, lt-leb, ne-eqb}
 use Rattle.rules.specs.Base.{sum, none, one}
@@ -150,7 +151,8 @@ fill-end {n} {s} {at} {a} {i} {e} len f ee ei h hl k p =
 pub packs-split : (ms ns s : List ℕ) → longPacks (ms ++ ns) [] s ≡ longPacks ms [] s ++ longPacks ns [] (drop (stringRoom ms) s)
 packs-split [] ns s = refl
 packs-split (n ∷ ms) ns [] =
-    rw (packs-split ms ns [], drop-nil (stringRoom ms), drop-nil (n - 3 + stringRoom ms)) (sym (append-assoc (fill n) (longPacks ms [] []) (longPacks ns [] [])))
+    rw (packs-split ms ns [], drop-nil (stringRoom ms), drop-nil (n - 3 + stringRoom ms))
+    (sym (append-assoc (fill n) (longPacks ms [] []) (longPacks ns [] [])))
 packs-split (n ∷ ms) ns (x ∷ s) =
     rw (packs-split ms ns (drop (n - 3) (x ∷ s)), drop-drop (stringRoom ms) (n - 3) (x ∷ s))
     (sym (append-assoc
@@ -170,7 +172,8 @@ laid-then {ms} {ns} {s} {len} {at} {b} {to} {u} {us} {mid} {after} r v w eb eu =
         let xs : List ℕ = longPacks ms [] t in
         let ys : List ℕ = longPacks ns [] (drop (stringRoom ms) t) in
         let l : to + length xs ≡ u = ap (λ (k : ℕ). to + k) (long-length ms [] t r) ∙ sym eu in
-        let d : drop b (take len s) ≡ drop (stringRoom ms) t = ap (λ (k : ℕ). drop k (take len s)) eb ∙ sym (drop-drop (stringRoom ms) at (take len s)) in
+        let d : drop b (take len s) ≡ drop (stringRoom ms) t =
+        ap (λ (k : ℕ). drop k (take len s)) eb ∙ sym (drop-drop (stringRoom ms) at (take len s)) in
         w .is p
         ∙ ap₂ (λ (m y : List ℕ). sets m u (longPacks ns [] y)) (v .is p) d
         ∙ ap (λ (k : ℕ). sets (sets us to xs) k ys) (sym l)
@@ -353,7 +356,8 @@ count-middle m g h =
 
 pub count-high : (m : ℕ) → 912 < m → m ≤ 1488 → longCount rowSizes m ≡ 16 + (m - 912 + 71) / 72
 count-high m g h =
-    count-past (replicate 8 75 ++ replicate 8 45) (replicate 8 75) m roomy-first (omega arith) ∙ ap (λ (j : ℕ). 16 + j) (count75 (m - 912) (omega arith))
+    count-past (replicate 8 75 ++ replicate 8 45) (replicate 8 75) m roomy-first (omega arith)
+    ∙ ap (λ (j : ℕ). 16 + j) (count75 (m - 912) (omega arith))
 
 -- whole rows have 24 packs each, and the rest of the string is in one more
 rows-count : (k m : ℕ) → m ≤ 1488 * k → longCount (rowsSizes k) m ≡ 24 * (m / 1488) + longCount rowSizes (m % 1488)

@@ -128,7 +128,14 @@ module _ (n : ℕ) (ns us : List ℕ) (total at len : ℕ) (roomy : 3 ≤ n) (fi
   later-at : drop (n - 3) (drop 3 (drop at (take total us))) ≡ drop (at + n) (take total pulled)
   later-at =
       let e : at + 3 + (n - 3) ≡ at + n = omega arith in
-      rw (drop-drop 3 at (take total us), drop-drop (n - 3) (at + 3) (take total us), e, drop-take (at + n) total us, drop-take (at + n) total pulled, pulled-later)
+      rw (
+        drop-drop 3 at (take total us),
+        drop-drop (n - 3) (at + 3) (take total us),
+        e,
+        drop-take (at + n) total us,
+        drop-take (at + n) total pulled,
+        pulled-later,
+      )
 
   -- all that is left opens as this pack says
   pack-opened : openedOn (n ∷ ns) total us at len
@@ -237,7 +244,8 @@ row-turn rows r us h w g e =
     let s = sum-rows (rows - (r + 1)) in
     let a : 1560 * (r + 1) ≡ 1560 * r + 1560 = omega arith in
     let l : 1488 * (r + 1) ≡ 1488 * r + 1488 = omega arith in
-    rw (n, a, l, e) (opened-down rowSizes (rowsSizes (rows - (r + 1))) us (1560 * rows) (1560 * r) (1488 * r) roomy-row (omega arith) w (omega arith) g)
+    rw (n, a, l, e)
+    (opened-down rowSizes (rowsSizes (rows - (r + 1))) us (1560 * rows) (1560 * r) (1488 * r) roomy-row (omega arith) w (omega arith) g)
 
 -- ---- the answer
 
@@ -398,7 +406,13 @@ module _ {o : Opened} {total : ℕ} {us : List ℕ} {at len k : ℕ} (w : Openin
         opens : o ≡ cond fill-behind (opened (take (len + room) us′) room) shut
         opens =
             turn .1 .2
-            ∙ rw (drop-take (at + (3 + room)) total next-us, eq-eqb (getD us at 0) 0xE3 mark, ne-eqb (getD us (at + 1) 0 % 2) 1 (λ q. omega arith), pulled-down, last-pack)
+            ∙ rw (
+              drop-take (at + (3 + room)) total next-us,
+              eq-eqb (getD us at 0) 0xE3 mark,
+              ne-eqb (getD us (at + 1) 0 % 2) 1 (λ q. omega arith),
+              pulled-down,
+              last-pack,
+            )
 
     -- END is 1
     pub turn-more : (getD us (at + 1) 0 % 2 ≡ 0 → ⊥) → {j : ℕ} → (j ≡ after k) × (j < 24)

@@ -190,7 +190,8 @@ fn pull_row(us: &mut [u8; 9360], from: usize, to: usize)
 fn pull_rows(us: &mut [u8; 9360], rows: usize) -> usize
     requires { ⌜ rows ≤ 6 ⌝ }
     ensures { λ r. ⌜ r ≤ rows ⌝ }
-    ensures { λ r. ⌜ openedOn (rowsSizes (rows - r)) (1560 * rows) (now (us .exit)) (1560 * r) (1488 * r) ≡ openedOn (rowsSizes rows) (1560 * rows) (now (us .entry)) 0 0 ⌝ }
+    ensures { λ r. ⌜ openedOn (rowsSizes (rows - r)) (1560 * rows) (now (us .exit)) (1560 * r) (1488 * r)
+        ≡ openedOn (rowsSizes rows) (1560 * rows) (now (us .entry)) 0 0 ⌝ }
 {
     let mut r = 0;
     while r < rows {

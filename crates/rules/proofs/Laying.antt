@@ -60,7 +60,8 @@ laying-only k s area ps e =
     within : List Packet → Outcome
     within qs = unless 12 (fits k (blockSizes y) qs) (listed qs)
 
-    fitted : (qs : List Packet) (t : Bool) → fits k (blockSizes y) qs ≡ t → unless 12 t (listed qs) ≡ listed ps → (qs ≡ ps) × (fits k (blockSizes y) qs ≡ true)
+    fitted : (qs : List Packet) (t : Bool) → fits k (blockSizes y) qs ≡ t → unless 12 t (listed qs) ≡ listed ps
+        → (qs ≡ ps) × (fits k (blockSizes y) qs ≡ true)
     fitted qs true q e = (cc, q)
     fitted qs false q e = never (cc)
 
@@ -73,7 +74,8 @@ laying-only k s area ps e =
         subst (λ (rs : List Packet). Asked k (systemIn s) rs s area × (fits k (blockSizes y) rs ≡ true)) (w .0)
         (record { packing = p; sheet = z; own = l }, w .1)
 
-    go : (a : Bool) → isPacking k ≡ a → (b : Bool) → shaped s ≡ b → (c : Bool) → known (systemIn s) ≡ c → (d : Bool) → eqb (length area) (areaSize y) ≡ d
+    go : (a : Bool) → isPacking k ≡ a → (b : Bool) → shaped s ≡ b → (c : Bool) → known (systemIn s) ≡ c
+        → (d : Bool) → eqb (length area) (areaSize y) ≡ d
         → unless 1 a (unless 2 b (unless 3 c (unless 4 d (andThen (listTests y s) within)))) ≡ listed ps
         → Asked k (systemIn s) ps s area × (fits k (blockSizes y) ps ≡ true)
     go false p b q c r d t e = never (cc)
@@ -89,7 +91,8 @@ laying-refused k s area n i e =
     unless-from 1 1 (isPacking k) _ n i
     (unless-from 1 2 (shaped s) _ n i
     (unless-from 1 3 (known (systemIn s)) _ n i
-    (unless-from 1 4 (eqb (length area) (areaSize y)) _ n i (from-list (listTests y s) refl) (omega arith)) (omega arith)) (omega arith)) (omega arith) e
+    (unless-from 1 4 (eqb (length area) (areaSize y)) _ n i (from-list (listTests y s) refl)
+    (omega arith)) (omega arith)) (omega arith)) (omega arith) e
   where
     y : System
     y = system (systemIn s)
@@ -118,7 +121,8 @@ module _ (k sys : ℕ) (ps : List Packet) (s area : List ℕ) (a : Asked k sys p
 
   success : Success k sys ps area (laidOf k y (listed ps)) (areaOf k y area (listed ps))
   success =
-      let g : userBytesIn y (scatter (runs y) us area) ≡ us = gather-scatter (areaSize y) (runs y) us area (facts .within) (facts .apart) us-length (a .own) in
+      let g : userBytesIn y (scatter (runs y) us area) ≡ us =
+      gather-scatter (areaSize y) (runs y) us area (facts .within) (facts .apart) us-length (a .own) in
       record {
         number = refl;
         place = refl;
@@ -231,7 +235,8 @@ module _ (k : ℕ) (s area : List ℕ) where
             rw (p, v .0, v .1, eq-eqb (length area) (areaSize (system (systemIn s))) l) (go (listTests (system (systemIn s)) s) a)
           where
             go : (o : Outcome) → t ≡ testedOf (systemIn s) o
-                → andThen o (λ (ps : List Packet). unless 12 (fits k (blockSizes (system (systemIn s))) ps) (listed ps)) ≡ refused (t .number) (t .place)
+                → andThen o (λ (ps : List Packet). unless 12 (fits k (blockSizes (system (systemIn s))) ps) (listed ps))
+                ≡ refused (t .number) (t .place)
             go (listed ps) e = absurd (n0 (ap (λ (x : Tested). x .number) e))
             go (refused m i) e = λ j. refused (sym (ap (λ (x : Tested). x .number) e) j) (sym (ap (λ (x : Tested). x .place) e) j)
 

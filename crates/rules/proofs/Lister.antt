@@ -31,7 +31,8 @@ sheet-refused : (s : List ℕ) (n i : ℕ) → sheetTests s ≡ refused n i → 
 unfolding sheetTests
 sheet-refused s n i e =
     unless-from 1 2 (shaped s) _ n i
-    (unless-from 1 3 (known (systemIn s)) _ n i (λ q. let h = list-refused (system (systemIn s)) s n i q in omega arith) (omega arith)) (omega arith) e
+    (unless-from 1 3 (known (systemIn s)) _ n i (λ q. let h = list-refused (system (systemIn s)) s n i q in omega arith)
+    (omega arith)) (omega arith) e
 
 -- the contract of the lister's tests follows from its first field
 pub tests : (s : List ℕ) (r : Tested) → r ≡ tested s → Tests s r

@@ -9,11 +9,13 @@ use mathlib.Core.Bool.{Bool, true, false, cond}
 use mathlib.Core.List.{List, [], _∷_, _++_, append-assoc, append-nil}
 use native.Mathlib.Omega.{arith}
 use lib.Dec.{eqb, leb, eqb·suc-zero}
-use lib.ListN.{length, getD, take, drop, length-append, length-take, length-drop, length-replicate, take-append-drop, replicate-append-replicate, drop-of-length-le}
+use lib.ListN.{length, getD, take, drop, length-append, length-take, length-drop, length-replicate, take-append-drop}
+use lib.ListN.{replicate-append-replicate, drop-of-length-le}
 use lib.Seq.{length-take-le, take-at, drop-at, take-all, drop-append-le, take-append-le}
 use borrow.Author.Tests.{eqb-true, eqb-false, leb-true, leb-false, le-leb, lt-leb, eq-eqb, ne-eqb}
 use Rattle.rules.specs.Base.{allIs, sum, All, one, Bytes}
-use Rattle.rules.specs.Packing2.{fill, filled, Spare, spare, Spares, endBit, longPacks, Opened, opened, shut, openPack, openLong, stringRoom, longCount, packsIn2}
+use Rattle.rules.specs.Packing2.{fill, filled, Spare, spare, Spares, endBit, longPacks, stringRoom, longCount, packsIn2}
+use Rattle.rules.specs.Packing2.{Opened, opened, shut, openPack, openLong}
 use Rattle.rules.proofs.Basics.{never, allIs-fill, fill-allIs, take-bytes, drop-bytes, append-below}
 
 -- each block has room for a string byte
@@ -104,7 +106,8 @@ module _ (n : ℕ) (ns : List ℕ) (fs : List Spare) (x : ℕ) (s : List ℕ) wh
       }
 
   -- a string that goes on is opened if its rest is
-  open-more : n - 3 < length (x ∷ s) → OpenedOf (drop (n - 3) (x ∷ s)) (openLong ns others) → OpenedOf (x ∷ s) (openLong (n ∷ ns) (longPacks (n ∷ ns) fs (x ∷ s)))
+  open-more : n - 3 < length (x ∷ s) → OpenedOf (drop (n - 3) (x ∷ s)) (openLong ns others)
+      → OpenedOf (x ∷ s) (openLong (n ∷ ns) (longPacks (n ∷ ns) fs (x ∷ s)))
   open-more h w =
       record {
         over = w .over;
@@ -118,7 +121,8 @@ module _ (n : ℕ) (ns : List ℕ) (fs : List Spare) (x : ℕ) (s : List ℕ) wh
           let k : length (take (n - 3) (x ∷ s)) ≡ n - 3 = length-take-le (n - 3) (x ∷ s) (omega arith) in
           let z : n - 3 - length (take (n - 3) (x ∷ s)) ≡ 0 = omega arith in
           rw (z, append-nil)
-          (sym (append-assoc (take (n - 3) (x ∷ s)) (drop (n - 3) (x ∷ s)) (fill (w .over))) ∙ ap (λ (t : List ℕ). t ++ fill (w .over)) (take-append-drop (n - 3) (x ∷ s)))
+          (sym (append-assoc (take (n - 3) (x ∷ s)) (drop (n - 3) (x ∷ s)) (fill (w .over)))
+          ∙ ap (λ (t : List ℕ). t ++ fill (w .over)) (take-append-drop (n - 3) (x ∷ s)))
 
   -- a string within the room is opened, whether it ends in the first pack or not
   open-step : 3 < n
@@ -136,14 +140,16 @@ module _ (n : ℕ) (ns : List ℕ) (fs : List Spare) (x : ℕ) (s : List ℕ) wh
   open-over h e = rw (end-one (getD fs 0 spare .upper) (n - 3) (x ∷ s) h, chunk-take, chunk-drop, e)
 
 -- what is laid is opened: the string, and less fill than the last pack holds
-pub long-read : (ns : List ℕ) (fs : List Spare) (s : List ℕ) → Roomy ns → 0 < length s → length s ≤ stringRoom ns → OpenedOf s (openLong ns (longPacks ns fs s))
+pub long-read : (ns : List ℕ) (fs : List Spare) (s : List ℕ) → Roomy ns → 0 < length s → length s ≤ stringRoom ns
+    → OpenedOf s (openLong ns (longPacks ns fs s))
 long-read [] fs s r z h = absurd (omega arith)
 long-read (n ∷ ns) fs [] r z h = absurd (omega arith)
 long-read (n ∷ ns) fs (x ∷ s) (one hn r) z h =
     open-step n ns fs x s hn (λ a b. long-read ns (drop 1 fs) (drop (n - 3) (x ∷ s)) r a b) h (leb (length (x ∷ s)) (n - 3)) refl
 
 -- two strings give the same user bytes only if they are equal up to fill at the end
-pub long-unique : (ns : List ℕ) (fs gs : List Spare) (s t : List ℕ) → Roomy ns → 0 < length s → 0 < length t → length s ≤ stringRoom ns → length t ≤ stringRoom ns
+pub long-unique : (ns : List ℕ) (fs gs : List Spare) (s t : List ℕ) → Roomy ns → 0 < length s → 0 < length t
+    → length s ≤ stringRoom ns → length t ≤ stringRoom ns
     → longPacks ns fs s ≡ longPacks ns gs t → (a b : ℕ) × (s ++ fill a ≡ t ++ fill b)
 long-unique ns fs gs s t r zs zt hs ht e =
     let v = long-read ns fs s r zs hs in
@@ -162,7 +168,8 @@ long-over (n ∷ ns) fs (x ∷ s) (one hn r) h =
     open-over n ns fs x s (omega arith) (long-over ns (drop 1 fs) (drop (n - 3) (x ∷ s)) r (omega arith))
 
 -- a string is opened exactly when it is within the capacity
-pub long-room : (ns : List ℕ) (fs : List Spare) (s : List ℕ) → Roomy ns → 0 < length s → OpenedOf s (openLong ns (longPacks ns fs s)) ↔ (length s ≤ stringRoom ns)
+pub long-room : (ns : List ℕ) (fs : List Spare) (s : List ℕ) → Roomy ns → 0 < length s
+    → OpenedOf s (openLong ns (longPacks ns fs s)) ↔ (length s ≤ stringRoom ns)
 long-room ns fs s r z = (λ o. within o (leb (length s) (stringRoom ns)) refl, long-read ns fs s r z)
   where
     within : OpenedOf s (openLong ns (longPacks ns fs s)) → (t : Bool) → leb (length s) (stringRoom ns) ≡ t → length s ≤ stringRoom ns
@@ -206,8 +213,8 @@ opened-room (n ∷ ns) (a ∷ b ∷ c ∷ v) t d (one hn r) l e =
     omega arith)
     (w .1)
 
-module _ (n : ℕ) (ns : List ℕ) (a b c : ℕ) (v : List ℕ) (x : ℕ) (s tail : List ℕ) (hn : 3 < n) (len : length v ≡ n - 3 + sum ns) (hb : b < 256) (hc : c < 256)
-    (ha : a ≡ 0xE3) (fil : allIs 0xFF tail ≡ true) where
+module _ (n : ℕ) (ns : List ℕ) (a b c : ℕ) (v : List ℕ) (x : ℕ) (s tail : List ℕ) (hn : 3 < n) (len : length v ≡ n - 3 + sum ns)
+    (hb : b < 256) (hc : c < 256) (ha : a ≡ 0xE3) (fil : allIs 0xFF tail ≡ true) where
   -- the free bits of the first pack
   abbrev free : Spare
   free = record { upper = b / 2; third = c }
@@ -264,7 +271,8 @@ module _ (n : ℕ) (ns : List ℕ) (a b c : ℕ) (v : List ℕ) (x : ℕ) (s tai
 
   -- what opens was laid, whether the first pack is the last or not
   laid-step : (t : List ℕ) (d : ℕ) → Roomy ns → t ≡ (x ∷ s) ++ tail → length tail < d
-      → ((u : List ℕ) → openLong ns (drop (n - 3) v) ≡ opened u d → u ≡ drop (n - 3) (x ∷ s) ++ tail → LongOf ns (drop (n - 3) v) (drop (n - 3) (x ∷ s)))
+      → ((u : List ℕ) → openLong ns (drop (n - 3) v) ≡ opened u d → u ≡ drop (n - 3) (x ∷ s) ++ tail
+      → LongOf ns (drop (n - 3) v) (drop (n - 3) (x ∷ s)))
       → (((eqb (b % 2) 1 ≡ false) × (allIs 0xFF (drop (n - 3) v) ≡ true) × (take (n - 3) v ≡ t) × (n - 3 ≡ d))
       ⊎ ((u : List ℕ) × (eqb (b % 2) 1 ≡ true) × (openLong ns (drop (n - 3) v) ≡ opened u d) × (take (n - 3) v ++ u ≡ t)))
       → LongOf (n ∷ ns) (a ∷ b ∷ c ∷ v) (x ∷ s)
@@ -279,8 +287,10 @@ module _ (n : ℕ) (ns : List ℕ) (a b c : ℕ) (v : List ℕ) (x : ℕ) (s tai
       sym (length-append (take (n - 3) v) u) ∙ ap length j ∙ length-append (x ∷ s) tail in
       let g : n - 3 < length (x ∷ s) = omega arith in
       let g2 : n - 3 ≤ length (x ∷ s) = omega arith in
-      let jt : take (n - 3) v ≡ take (n - 3) (x ∷ s) = sym (take-at (take (n - 3) v) u (n - 3) k) ∙ ap (take (n - 3)) j ∙ take-append-le (n - 3) (x ∷ s) tail g2 in
-      let jd : u ≡ drop (n - 3) (x ∷ s) ++ tail = sym (drop-at (take (n - 3) v) u (n - 3) k) ∙ ap (drop (n - 3)) j ∙ drop-append-le (n - 3) (x ∷ s) tail g2 in
+      let jt : take (n - 3) v ≡ take (n - 3) (x ∷ s) =
+      sym (take-at (take (n - 3) v) u (n - 3) k) ∙ ap (take (n - 3)) j ∙ take-append-le (n - 3) (x ∷ s) tail g2 in
+      let jd : u ≡ drop (n - 3) (x ∷ s) ++ tail =
+      sym (drop-at (take (n - 3) v) u (n - 3) k) ∙ ap (drop (n - 3)) j ∙ drop-append-le (n - 3) (x ∷ s) tail g2 in
       laid-more (eqb-true (b % 2) 1 (z .1)) g jt (ih u (z .2) jd)
 
 -- what opens to a string, with less fill behind it than the last pack holds, was laid from that string
@@ -311,7 +321,8 @@ long-bytes (n ∷ ns) ub t d (one hn r) h e =
     let v : List ℕ = drop 3 ub in
     let hv : Bytes v = drop-bytes 3 ub h in
     let w =
-    openPack-cases (eqb (getD ub 0 0) 0xE3) (eqb (getD ub 1 0 % 2) 1) (allIs 0xFF (drop (n - 3) v)) (take (n - 3) v) (n - 3) (openLong ns (drop (n - 3) v)) t d e in
+    openPack-cases (eqb (getD ub 0 0) 0xE3) (eqb (getD ub 1 0 % 2) 1) (allIs 0xFF (drop (n - 3) v)) (take (n - 3) v) (n - 3)
+    (openLong ns (drop (n - 3) v)) t d e in
     ⊎-elim
     (λ z. subst Bytes (z .2) (take-bytes (n - 3) v hv))
     (λ z.
@@ -336,7 +347,9 @@ pub long-counted : (ns : List ℕ) (fs : List Spare) (s : List ℕ) → Roomy ns
 long-counted [] fs s r = refl
 long-counted (n ∷ ns) fs [] (one hn r) =
     let later = longPacks ns (drop 1 fs) [] in
-    rw (fill-first n later hn, drop-at (fill n) later n (length-replicate n 0xFF)) (let k = long-counted ns (drop 1 fs) [] r in let z = count-none ns in omega arith)
+    let k = long-counted ns (drop 1 fs) [] r in
+    let z = count-none ns in
+    rw (fill-first n later hn, drop-at (fill n) later n (length-replicate n 0xFF)) (omega arith)
 long-counted (n ∷ ns) fs (x ∷ s) (one hn r) =
     rw (
       eqb·suc-zero (length s),

@@ -21,7 +21,8 @@ use Rattle.rules.specs.Danc.{Item, Good, packetsOf, header, behind, danc
 use Rattle.rules.specs.Packing1.{Five, five, flat, fives, carriers, carriersFor, packsOf, packs, packsIn1}
 use Rattle.rules.specs.Packing2.{fill, filled}
 use Rattle.rules.specs.Numbers.{listed, packetsIn}
-use Rattle.rules.specs.Reading.{packetOfBytes, bytesFault, lead, carried, frontBytes, carriersFit, packsFault, packsEnd, afterCarriers, packRow, inOrder}
+use Rattle.rules.specs.Reading.{packetOfBytes, bytesFault, packRow, inOrder}
+use Rattle.rules.specs.Reading.{lead, carried, frontBytes, carriersFit, packsFault, packsEnd, afterCarriers}
 use Rattle.rules.proofs.Basics.{both, allIs-fill, fill-allIs, later-bytes}
 use Rattle.rules.proofs.Rows.{row-read, row-laid}
 use Rattle.rules.proofs.Strings.{bytes-packet, bytes-fine, bytes-rest, itemOf, bytes-laid}
@@ -358,8 +359,9 @@ pub packs-room : (m : ℕ) (xs : List Item) → (length (filled (5 * m) (flat (j
 packs-room m xs =
     let k = packs-length xs in
     let l = flat-length (joined packs xs) in
-    let n = length-append (flat (joined packs xs)) (fill (5 * m - length (flat (joined packs xs)))) in
-    let f : length (fill (5 * m - length (flat (joined packs xs)))) ≡ 5 * m - length (flat (joined packs xs)) = length-replicate (5 * m - length (flat (joined packs xs))) 0xFF in
+    let free : ℕ = 5 * m - length (flat (joined packs xs)) in
+    let n = length-append (flat (joined packs xs)) (fill free) in
+    let f : length (fill free) ≡ free = length-replicate free 0xFF in
     (λ e. omega arith, λ h. omega arith)
 
 in-append : (s t : List Five) → packsIn1 (s ++ t) ≡ packsIn1 s + packsIn1 t

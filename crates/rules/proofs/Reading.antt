@@ -43,7 +43,8 @@ module _ (sys : ℕ) (k : known sys ≡ true) (area : List ℕ) (l : length area
 
   -- reading comes down to the user bytes and the room for the sheet
   reading-is : (room : ℕ)
-      → reading sys area room ≡ andThen (packetsOfUserBytes y (blockSizes y) ub) (λ (ps : List Packet). unless 17 (leb (length (sheetOf sys ps)) room) (listed ps))
+      → reading sys area room
+      ≡ andThen (packetsOfUserBytes y (blockSizes y) ub) (λ (ps : List Packet). unless 17 (leb (length (sheetOf sys ps)) room) (listed ps))
   unfolding reading
   reading-is room = rw (k, eq-eqb (length area) (areaSize y) l)
 
@@ -97,7 +98,8 @@ reading-refused sys area room n i e =
 -- ---- the contract
 
 -- the contract of reading follows from its first two fields, over an area of bytes
-pub reads : (sys : ℕ) (area sheet : List ℕ) (r : ReadBack) (after : List ℕ) → Bytes area → r ≡ read sys area sheet → after ≡ bufferAfter sys area sheet
+pub reads : (sys : ℕ) (area sheet : List ℕ) (r : ReadBack) (after : List ℕ) → Bytes area → r ≡ read sys area sheet
+    → after ≡ bufferAfter sys area sheet
     → Reads sys area sheet r after
 unfolding read bufferAfter
 reads sys area sheet r after b er ea =
@@ -113,7 +115,8 @@ reads sys area sheet r after b er ea =
             only = λ n. only k l (reading sys area (length sheet)) refl (ap (λ (x : ReadBack). x .number) er) n;
             one = λ i j ps qs g h.
                 let f = facts-of sys k in
-                users-unique (system sys) (f .last) (blockSizes (system sys)) (f .packs) (f .roomy) (f .whole) i j ps qs (userBytesIn (system sys) area) g h;
+                let y : System = system sys in
+                users-unique y (f .last) (blockSizes y) (f .packs) (f .roomy) (f .whole) i j ps qs (userBytesIn y area) g h;
           };
     }
   where
@@ -141,7 +144,8 @@ reads sys area sheet r after b er ea =
 -- the sheet that is read has room in its buffer
 pub read-within : (sys : ℕ) (area sheet : List ℕ) (r : ReadBack) (after : List ℕ) → Reads sys area sheet r after → r .numbers ≤ length sheet
 unfolding read reading
-read-within sys area sheet r after d = subst (λ (x : ReadBack). x .numbers ≤ length sheet) (sym (d .answer)) (within (reading sys area (length sheet)) refl)
+read-within sys area sheet r after d =
+    subst (λ (x : ReadBack). x .numbers ≤ length sheet) (sym (d .answer)) (within (reading sys area (length sheet)) refl)
   where
     y : System
     y = system sys
@@ -160,7 +164,8 @@ read-within sys area sheet r after d = subst (λ (x : ReadBack). x .numbers ≤ 
         subst (λ (rs : List Packet). length (sheetOf sys rs) ≤ length sheet) p (leb-true (length (sheetOf sys qs)) (length sheet) q)
     fitted qs ps false q e = never (cc)
 
-    users : (o : Outcome) (ps : List Packet) → andThen o (λ (qs : List Packet). unless 17 (leb (length (sheetOf sys qs)) (length sheet)) (listed qs)) ≡ listed ps
+    users : (o : Outcome) (ps : List Packet)
+        → andThen o (λ (qs : List Packet). unless 17 (leb (length (sheetOf sys qs)) (length sheet)) (listed qs)) ≡ listed ps
         → length (sheetOf sys ps) ≤ length sheet
     users (refused n i) ps e = never (cc)
     users (listed qs) ps e = fitted qs ps (leb (length (sheetOf sys qs)) (length sheet)) refl e
@@ -187,9 +192,11 @@ there-and-back k s area r after v n sheet b out w h =
     let g = v .demand2 .laid sys ps a (o .3) in
     let c : Comes sys after k ps =
     subst (Gives (system sys) (blockSizes (system sys)) k ps) (sym (g .users))
-    (written-gives (system sys) (f .last) (blockSizes (system sys)) (f .packs) (f .roomy) (f .whole) k ps (a .packing) (a .sheet .sound) (a .sheet .few) (o .3)) in
+    (written-gives (system sys) (f .last) (blockSizes (system sys)) (f .packs) (f .roomy) (f .whole) k ps
+    (a .packing) (a .sheet .sound) (a .sheet .few) (o .3)) in
     let w2 : Reads sys after sheet b out = subst (λ (z : ℕ). Reads z after sheet b out) y w in
-    let e = w2 .demand3 (a .sheet .known) (g .length ∙ a .own) .accepts k ps c (subst (λ (t : List ℕ). length t ≤ length sheet) (a .sheet .whole) h) in (
+    let l : length (sheetOf sys ps) ≤ length sheet = subst (λ (t : List ℕ). length t ≤ length sheet) (a .sheet .whole) h in
+    let e = w2 .demand3 (a .sheet .known) (g .length ∙ a .own) .accepts k ps c l in (
       ap (λ (x : ReadBack). x .number) (e .0),
       ap (λ (x : ReadBack). x .numbers) (e .0) ∙ ap length (sym (a .sheet .whole)),
       e .1 ∙ ap (λ (t : List ℕ). t ++ drop (length t) sheet) (sym (a .sheet .whole)),
@@ -210,8 +217,8 @@ last-byte xs x =
     (string xs ++ (header x ++ body (x .packet)), joined-append danc xs (x ∷ []) ∙ simp (append-nil, append-assoc))
 
 -- the second act: a string whose last byte, a CS byte, is FFh, with fill behind it, still has its last packet
-pub second-act : (y : System) → y .last < 2047 → (room left : ℕ) (xs : List Item) (x : Item) (n : ℕ) → All (Good y) (xs ++ x ∷ []) → length (xs ++ x ∷ []) ≤ left
-    → n < room → checkOf (x .packet) % 256 ≡ 0xFF
+pub second-act : (y : System) → y .last < 2047 → (room left : ℕ) (xs : List Item) (x : Item) (n : ℕ) → All (Good y) (xs ++ x ∷ [])
+    → length (xs ++ x ∷ []) ≤ left → n < room → checkOf (x .packet) % 256 ≡ 0xFF
     → ((s : List ℕ) × (string (xs ++ x ∷ []) ≡ s ++ fill 1))
     × (packetsIn (stringRow y room) left 0 (string (xs ++ x ∷ []) ++ fill n) ≡ listed (packetsOf (xs ++ x ∷ [])))
 second-act y hm room left xs x n g few h e =

@@ -19,6 +19,10 @@ use Rattle.rules.specs.Packet.{Packet}
 use Rattle.rules.specs.Numbers.{Outcome, listed, refused, also, Row, packetsIn}
 use Rattle.rules.proofs.Basics.{never}
 
+-- what may follow an item of a row of numbers, where it does not matter
+abbrev pub Anything : List ℕ → Type 0
+Anything s = Unit {0}
+
 -- items of a row: what each gives, and the packet that it stands for
 module _ {A X : Type 0} (row : Row A) (gives : X → List A) (view : X → Packet) (Good : X → Type 0) where
   -- a good item at the front, before what may follow one (`Follows`), is no end, has no fault, and is cut off whole

@@ -99,7 +99,13 @@ module _ (sys : ℕ) (ps : List Packet) where
   shaped-back =
       let l = sheet-length in
       let w = words-room ps in
-      rw (first-back, word-count-back, count-back, le-leb (4 + 2 * length ps) (length S) (omega arith), eq-eqb (length S) (4 + 2 * length ps + length W) (omega arith))
+      rw (
+        first-back,
+        word-count-back,
+        count-back,
+        le-leb (4 + 2 * length ps) (length S) (omega arith),
+        eq-eqb (length S) (4 + 2 * length ps + length W) (omega arith),
+      )
 
   -- what is laid is read: tests 5 to 11
   pub list-read : (y : System) → All (Sound y) ps → length ps ≤ limit → listTests y S ≡ listed ps
@@ -130,7 +136,8 @@ module _ (y : System) where
   stood i (l ∷ []) o ps e = e
   stood i (l ∷ f ∷ ls) o ps e = go (stands y l && ltb f 4) (λ q. stood (suc i) ls o ps q) e
     where
-      go : (t : Bool) → (locationsStand y (suc i) ls o ≡ listed ps → o ≡ listed ps) → cond t (locationsStand y (suc i) ls o) (refused 6 i) ≡ listed ps → o ≡ listed ps
+      go : (t : Bool) → (locationsStand y (suc i) ls o ≡ listed ps → o ≡ listed ps)
+          → cond t (locationsStand y (suc i) ls o) (refused 6 i) ≡ listed ps → o ≡ listed ps
       go true ih e = ih e
       go false ih e = never (cc)
 
@@ -175,7 +182,8 @@ unfolding shaped
 shape-of s e =
     let w = both (eqb (getD s 0 0) 1) (leb (4 + 2 * countIn s) (length s) && eqb (length s) (4 + 2 * countIn s + wordCountIn s)) e in
     let v = both (leb (4 + 2 * countIn s) (length s)) (eqb (length s) (4 + 2 * countIn s + wordCountIn s)) (w .1) in
-    go s (eqb-true (getD s 0 0) 1 (w .0)) (leb-true (4 + 2 * countIn s) (length s) (v .0)) (eqb-true (length s) (4 + 2 * countIn s + wordCountIn s) (v .1))
+    go s (eqb-true (getD s 0 0) 1 (w .0)) (leb-true (4 + 2 * countIn s) (length s) (v .0))
+    (eqb-true (length s) (4 + 2 * countIn s + wordCountIn s) (v .1))
   where
     go : (s : List ℕ) → getD s 0 0 ≡ 1 → 4 + 2 * countIn s ≤ length s → length s ≡ 4 + 2 * countIn s + wordCountIn s
         → (s ≡ (1 ∷ systemIn s ∷ countIn s ∷ locationsIn s) ++ length (wordsIn s) ∷ wordsIn s) × (length (locationsIn s) ≡ 2 * countIn s)
@@ -269,11 +277,8 @@ Sixteen s = (i : ℕ) → getD s i 0 < 65536
 
 word-small : (b : ℕ) → b < 256 → word b < 1024
 unfolding word parity
-word-small b h = go (ones b % 2) (bit (ones b))
+word-small b h = go (ones b % 2) (omega arith)
   where
-    bit : (n : ℕ) → n % 2 < 2
-    bit n = omega arith
-
     go : (p : ℕ) → p < 2 → b + 256 * p + 512 * (1 - p) < 1024
     go p k = omega arith
 
@@ -348,7 +353,8 @@ stand-from b y i [] o n k h l e = h e
 stand-from b y i (x ∷ []) o n k h l e = h e
 stand-from b y i (x ∷ f ∷ ls) o n k h l e = go (stands y x && ltb f 4) (stand-from b y (suc i) ls o n k h l) e
   where
-    go : (t : Bool) → (locationsStand y (suc i) ls o ≡ refused n k → b ≤ n) → cond t (locationsStand y (suc i) ls o) (refused 6 i) ≡ refused n k → b ≤ n
+    go : (t : Bool) → (locationsStand y (suc i) ls o ≡ refused n k → b ≤ n)
+        → cond t (locationsStand y (suc i) ls o) (refused 6 i) ≡ refused n k → b ≤ n
     go true ih e = ih e
     go false ih e = let z : 6 ≡ n = cc in omega arith
 
@@ -363,7 +369,8 @@ list-refused y s n k e =
     words-of : (o : Outcome) → packetsOfWords (wordsIn s) ≡ o
         → andThen o (λ (ps : List Packet). unless 11 (eqb (length ps) (countIn s)) (listed (located (locationsIn s) ps))) ≡ refused n k → 5 ≤ n
     words-of (refused m i) q e = let w = words-refused (wordsIn s) m i q in let z : m ≡ n = cc in omega arith
-    words-of (listed ps) q e = unless-from 5 11 (eqb (length ps) (countIn s)) (listed (located (locationsIn s) ps)) n k (λ f. never (cc)) (omega arith) e
+    words-of (listed ps) q e =
+        unless-from 5 11 (eqb (length ps) (countIn s)) (listed (located (locationsIn s) ps)) n k (λ f. never (cc)) (omega arith) e
 
 -- what the number of the sheet's tests says: 2 for its shape, 3 for its system, and else the tests of the list
 pub record Told (s : List ℕ) (n : ℕ) : Type 0 where
@@ -382,7 +389,8 @@ sheet-told s o e = go (shaped s) refl (known (systemIn s)) refl e
         numbers (listed ps) q = (λ n. omega arith, λ n. omega arith)
         numbers (refused m i) q = let h = list-refused (system (systemIn s)) s m i q in (λ n. omega arith, λ n. omega arith)
 
-    go : (a : Bool) → shaped s ≡ a → (b : Bool) → known (systemIn s) ≡ b → unless 2 a (unless 3 b (listTests (system (systemIn s)) s)) ≡ o → Told s (numberOf o)
+    go : (a : Bool) → shaped s ≡ a → (b : Bool) → known (systemIn s) ≡ b
+        → unless 2 a (unless 3 b (listTests (system (systemIn s)) s)) ≡ o → Told s (numberOf o)
     go false p b q e =
         let n : numberOf o ≡ 2 = ap numberOf (sym e) in
         record { two = λ m. p; three = λ m. absurd (omega arith); rest = λ m l. absurd (m n) }

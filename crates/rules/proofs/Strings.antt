@@ -20,7 +20,7 @@ use Rattle.rules.specs.Danc.{Item, Good, packetsOf, header, danc, string
 use Rattle.rules.specs.Numbers.{listed, packetsIn}
 use Rattle.rules.specs.Reading.{lineIn, lineOf, flagsOf, packetOfBytes, lineFault, bytesFault, stringFault, stringEnds, stringRow}
 use Rattle.rules.proofs.Basics.{never, neither, second-false, take-bytes, later-bytes}
-use Rattle.rules.proofs.Rows.{row-read, row-laid}
+use Rattle.rules.proofs.Rows.{Anything, row-read, row-laid}
 
 -- ---- header bytes: what is written comes back
 
@@ -287,10 +287,6 @@ string-uncut y room s h z = go (ltb (length s) 7) refl (ltb (length s) (getD s 5
 
 -- ---- a string
 
--- what may follow a packet of a string
-abbrev Anything : List ℕ → Type 0
-Anything s = Unit {0}
-
 -- what is laid is read, with an end behind it
 pub string-read : (y : System) → y .last < 2047 → (room left i : ℕ) (xs : List Item) (tail : List ℕ) → All (Good y) xs → length xs ≤ left
     → stringEnds room tail ≡ true → packetsIn (stringRow y room) left i (string xs ++ tail) ≡ listed (packetsOf xs)
@@ -322,12 +318,13 @@ pub string-laid : (y : System) (room left i : ℕ) (s : List ℕ) (ps : List Pac
 unfolding stringRow
 string-laid y room left i s ps h e =
     let l =
-    row-laid (stringRow y room) danc (λ (x : Item). x .packet) (Good y) Bytes (λ x r b. later-bytes (danc x) r b) (string-uncut y room) left i s ps h e in
+    row-laid (stringRow y room) danc (λ (x : Item). x .packet) (Good y) Bytes (λ x r b. later-bytes (danc x) r b) (string-uncut y room)
+    left i s ps h e in
     record { items = l .items; tail = l .tail; packets = l .packets; whole = l .whole; good = l .good; ends = l .ends; few = l .few }
 
 -- from one list only
-pub string-unique : (y : System) → y .last < 2047 → (room left : ℕ) (s : List ℕ) (ps qs : List Packet) → StringOf y room left s ps → StringOf y room left s qs
-    → ps ≡ qs
+pub string-unique : (y : System) → y .last < 2047 → (room left : ℕ) (s : List ℕ) (ps qs : List Packet) → StringOf y room left s ps
+    → StringOf y room left s qs → ps ≡ qs
 string-unique y hm room left s ps qs v w =
     let a = string-read y hm room left 0 (v .items) (v .tail) (v .good) (v .few) (v .ends) in
     let b = string-read y hm room left 0 (w .items) (w .tail) (w .good) (w .few) (w .ends) in

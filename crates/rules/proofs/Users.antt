@@ -27,7 +27,8 @@ use Rattle.rules.specs.Demands.{Gives, named}
 use Rattle.rules.proofs.Basics.{never, both, allIs-fill, fill-allIs, written-back}
 use Rattle.rules.proofs.Rows.{row-refused}
 use Rattle.rules.proofs.Strings.{string-read, string-laid, string-room}
-use Rattle.rules.proofs.Packs.{fives-flat, flat-fives, flat-append, flat-length, fills, packs-filled, packs-read, packs-laid, packs-order, packs-length, packs-counted}
+use Rattle.rules.proofs.Packs.{fives-flat, flat-fives, flat-append, flat-length, fills}
+use Rattle.rules.proofs.Packs.{packs-filled, packs-read, packs-laid, packs-order, packs-length, packs-counted}
 use Rattle.rules.proofs.Long.{Roomy, long-none, long-length, long-read, long-laid, long-bytes, long-counted, long-ceiling}
 
 -- ---- fill
@@ -92,9 +93,10 @@ module _ (y : System) (hm : y .last < 2047) (sizes : List ℕ) (m : ℕ) (roomy 
   read-packs x xs n g few =
       (rw (fives-flat (joined packs (x ∷ xs) ++ fills n), packs-order (x ∷ xs) n) (packs-read y hm limit 0 (x ∷ xs) n g few), refl)
 
-  read-long : (ns : List ℕ) (fs : List Spare) (x : Item) (xs : List Item) → Roomy ns → length (string (x ∷ xs)) ≤ stringRoom ns → All (Good y) (x ∷ xs)
-      → length (x ∷ xs) ≤ limit
-      → (packetsOfUserBytes y ns (longPacks ns fs (string (x ∷ xs))) ≡ listed (packetsOf (x ∷ xs))) × (packingFound (longPacks ns fs (string (x ∷ xs))) ≡ 2)
+  read-long : (ns : List ℕ) (fs : List Spare) (x : Item) (xs : List Item) → Roomy ns → length (string (x ∷ xs)) ≤ stringRoom ns
+      → All (Good y) (x ∷ xs) → length (x ∷ xs) ≤ limit
+      → (packetsOfUserBytes y ns (longPacks ns fs (string (x ∷ xs))) ≡ listed (packetsOf (x ∷ xs)))
+      × (packingFound (longPacks ns fs (string (x ∷ xs))) ≡ 2)
   unfolding packetsOfUserBytes danc header
   read-long [] fs x xs r h g few = absurd (omega arith)
   read-long (n ∷ ns) fs x xs r h g few =
@@ -134,10 +136,12 @@ module _ (y : System) (hm : y .last < 2047) (sizes : List ℕ) (m : ℕ) (roomy 
   unfolding userBytes capacity needed
   users-read k ps ub g =
       let h : needed k (packetsOf (g .items)) ≤ capacity k sizes =
-      leb-true (needed k (packetsOf (g .items))) (capacity k sizes) (subst (λ (qs : List Packet). fits k sizes qs ≡ true) (sym (g .packets)) (g .room)) in
+      leb-true (needed k (packetsOf (g .items))) (capacity k sizes)
+      (subst (λ (qs : List Packet). fits k sizes qs ≡ true) (sym (g .packets)) (g .room)) in
+      let few : length (g .items) ≤ limit = few-items (g .items) ps limit (g .packets) (g .few) in
       subst (λ (qs : List Packet). Read ub k qs) (g .packets)
       (subst (λ (us : List ℕ). Read us k (packetsOf (g .items))) (sym (g .bytes))
-      (read-items k (g .spares) (g .items) (g .good) (few-items (g .items) ps limit (g .packets) (g .few)) (eqb k 1) refl (packing-is k (g .packing)) h))
+      (read-items k (g .spares) (g .items) (g .good) few (eqb k 1) refl (packing-is k (g .packing)) h))
 
   -- ---- what is read was laid
 
@@ -306,6 +310,9 @@ module _ (y : System) (hm : y .last < 2047) (sizes : List ℕ) (m : ℕ) (roomy 
         bytes = refl;
       }
     where
+      good-one : (p : Packet) → Sound y p → Good y (written p)
+      good-one p g = record { sound = g; bits = omega arith; third = omega arith; junk = omega arith; starter = omega arith }
+
       all-good : (ps : List Packet) → All (Sound y) ps → All (Good y) (map written ps)
       all-good [] g = none
-      all-good (p ∷ ps) (one g gs) = one {x = written p} (record { sound = g; bits = omega arith; third = omega arith; junk = omega arith; starter = omega arith }) (all-good ps gs)
+      all-good (p ∷ ps) (one g gs) = one {x = written p} (good-one p g) (all-good ps gs)

@@ -64,7 +64,8 @@ module _ (sys : ℕ) (k : known sys ≡ true) where
   walk-packet xs x zs g =
       let s : List ℕ = string (xs ++ x ∷ zs) in
       let w = place-behind s 0 0 xs (danc x ++ string zs) refl (joined-append danc xs (x ∷ zs)) (all-before (Good y) xs (x ∷ zs) g) in
-      let p : placeOf sys s (length xs) ≡ length (string xs) = ap (placeOf sys s) (sym (zero-add (length xs))) ∙ w .0 ∙ zero-add (length (string xs)) in
+      let p : placeOf sys s (length xs) ≡ length (string xs) =
+      ap (placeOf sys s) (sym (zero-add (length xs))) ∙ w .0 ∙ zero-add (length (string xs)) in
       let d : drop (length (string xs)) s ≡ danc x ++ string zs = ap (λ (m : ℕ). drop m s) (sym (zero-add (length (string xs)))) ∙ w .1 in
       ap (walk sys s) p ∙ step-packet s (length (string xs)) x (string zs) d (first-good xs x zs g)
     where
@@ -107,7 +108,8 @@ module _ (sys : ℕ) (k : known sys ≡ true) where
   step-laid s at b h = go (leb (length s) at) (eqb (stringFault y (drop at s)) 0) refl (subst (λ (t : Step). 0 < t .length) known-walk h)
     where
       known-walk : walk sys s at
-          ≡ cond (leb (length s) at) (step 0 at 0) (cond (eqb (stringFault y (drop at s)) 0) (step 0 at (getD (drop at s) 5 0 + 7)) (step (stringFault y (drop at s)) at 0))
+          ≡ cond (leb (length s) at) (step 0 at 0)
+          (cond (eqb (stringFault y (drop at s)) 0) (step 0 at (getD (drop at s) 5 0 + 7)) (step (stringFault y (drop at s)) at 0))
       known-walk = rw k
 
       go : (a c : Bool) → eqb (stringFault y (drop at s)) 0 ≡ c
@@ -140,7 +142,8 @@ module _ (sys : ℕ) (k : known sys ≡ true) where
       next f =
           let c = f .before in
           let x = f .item in
-          let d : string (c ++ x ∷ []) ≡ string c ++ danc x = joined-append danc c (x ∷ []) ∙ ap (λ (t : List ℕ). string c ++ t) (append-nil (danc x)) in
+          let d : string (c ++ x ∷ []) ≡ string c ++ danc x =
+          joined-append danc c (x ∷ []) ∙ ap (λ (t : List ℕ). string c ++ t) (append-nil (danc x)) in
           let at : placeOf sys s (suc i) ≡ length (string (c ++ x ∷ [])) =
           (let l = length-append (string c) (danc x) in
           let m = danc-length x in

@@ -20,7 +20,7 @@ use Rattle.rules.specs.Sheet.{allWords}
 use Rattle.rules.specs.Numbers.{listed, refused, packetsIn}
 use Rattle.rules.specs.Laying.{isWord, areWords, flagged, low, dcIn, wordsFault, packetOfWords, noWords, wordRow, packetsOfWords}
 use Rattle.rules.proofs.Basics.{never, both}
-use Rattle.rules.proofs.Rows.{row-read, row-laid, row-enough, row-fault}
+use Rattle.rules.proofs.Rows.{Anything, row-read, row-laid, row-enough, row-fault}
 
 -- ---- a byte's word
 
@@ -30,10 +30,7 @@ low-of b p h k = omega arith
 -- the low byte of a byte's word is the byte
 pub low-word : (b : ℕ) → b < 256 → low (word b) ≡ b
 unfolding word parity
-low-word b h = low-of b (ones b % 2) h (bit (ones b))
-  where
-    bit : (n : ℕ) → n % 2 < 2
-    bit n = omega arith
+low-word b h = low-of b (ones b % 2) h (omega arith)
 
 is-word : (b : ℕ) → b < 256 → isWord (word b) ≡ true
 unfolding isWord
@@ -174,7 +171,9 @@ module _ (x y z a b n : ℕ) (t : List ℕ) where
       let k : low n < length t = omega arith in
       let u : map word (map low (take (low n) t)) ≡ take (low n) t = words-map (take (low n) t) (w .4) in
       let c : getD t (low n) 0 ≡ check (take (low n + 3) (drop 3 W)) =
-      getD-drop 6 W (low n) 0 ∙ ap (λ (m : ℕ). getD W m 0) (swap (low n)) ∙ eqb-true (getD W (dcIn W + 6) 0) (check (take (dcIn W + 3) (drop 3 W))) (w .5) in
+      getD-drop 6 W (low n) 0
+      ∙ ap (λ (m : ℕ). getD W m 0) (swap (low n))
+      ∙ eqb-true (getD W (dcIn W + 6) 0) (check (take (dcIn W + 3) (drop 3 W))) (w .5) in
       let c2 : take (low n + 3) (drop 3 W) ≡ a ∷ b ∷ n ∷ take (low n) t = rw (add-three (low n)) in
       let ln : length (map low (take (low n) t)) ≡ low n = length-map (take (low n) t) low ∙ length-take-le (low n) t (omega arith) in
       let head : map word (body p) ≡ a ∷ b ∷ n ∷ take (low n) t =
@@ -222,12 +221,9 @@ words-uncut sys (x ∷ y ∷ z ∷ a ∷ b ∷ n ∷ t) h q =
 abbrev pub bares : List Packet → List Packet
 bares ps = map bare ps
 
--- nothing follows section C
-abbrev Anything : List ℕ → Type 0
-Anything s = Unit {0}
-
 -- what is laid is read: with room for its packets
-read-within : (y : System) (ps : List Packet) (left : ℕ) → All (Sound y) ps → length ps ≤ left → packetsIn wordRow left 0 (allWords ps) ≡ listed (bares ps)
+read-within : (y : System) (ps : List Packet) (left : ℕ) → All (Sound y) ps → length ps ≤ left
+    → packetsIn wordRow left 0 (allWords ps) ≡ listed (bares ps)
 unfolding wordRow
 read-within y ps left g few =
     ap (packetsIn wordRow left 0) (sym (append-nil (allWords ps)))
@@ -272,7 +268,10 @@ unfolding packetsOfWords wordRow
 words-laid y ws ps e =
     let l = row-laid wordRow words bare (Sound y) Anything (λ x r b. tt) (words-uncut y) (length ws) 0 ws ps tt e in
     subst (WordsOf y ws) (l .packets)
-    (record { whole = l .whole ∙ nothing (allWords (l .items)) (l .tail) (l .ends) ∙ bare-words (l .items); sound = bare-sound y (l .items) (l .good) })
+    (record {
+      whole = l .whole ∙ nothing (allWords (l .items)) (l .tail) (l .ends) ∙ bare-words (l .items);
+      sound = bare-sound y (l .items) (l .good);
+    })
   where
     nothing : (ws t : List ℕ) → noWords t ≡ true → ws ++ t ≡ ws
     nothing ws [] e = append-nil ws

@@ -42,7 +42,7 @@ use Rattle.rules.proofs.Basics.{both, second-false}
 use Rattle.rules.proofs.Words.{words-enough, words-refused}
 use Rattle.frame.specs.Systems.{figuresOf}
 use Rattle.frame.specs.declared.Figures.{Figures}
-use Rattle.frame.proofs.Laws.{unknown-figures, known-figures}
+use Rattle.frame.proofs.Laws.{last-is, is-unknown, is-known}
 use Rattle.sheet.specs.Standing.{standingIn}
 
 -- ---- the shape
@@ -358,23 +358,18 @@ module _ (s : List ℕ) where
 
   -- a sheet of the right shape, and the figures of the system that it names
   module _ (sh : shaped s ≡ true) (sys : ℕ) (is : sys ≡ systemIn s) (x : Figures) (found : x ≡ figuresOf sys) where
-    sequences-is : x .sequences ≡ system (systemIn s) .sequences
-    unfolding figuresOf
-    sequences-is = ap (λ (z : Figures). z .sequences) found ∙ ap (λ (n : ℕ). system n .sequences) is
-
-    last-is : system (systemIn s) .last ≡ x .«last_line» .0
-    unfolding figuresOf
-    last-is = sym (ap (λ (z : Figures). z .«last_line» .0) found ∙ ap (λ (n : ℕ). system n .last) is)
+    named : x ≡ figuresOf (systemIn s)
+    named = found ∙ ap figuresOf is
 
     -- "system not 1 to 3"
     pub unknown : x .sequences ≡ 0 → testedOf 0 (refused 3 0) ≡ tested s
     unfolding tested sheetTests
-    unknown z = rw (sh, unknown-figures (systemIn s) (sym sequences-is ∙ z))
+    unknown z = rw (sh, is-unknown (systemIn s) x named z)
 
     -- and the list's own tests
     pub the-list : (x .sequences ≡ 0 → ⊥) → (r : Tested)
         → ((y : System) → y .last ≡ x .«last_line» .0 → r ≡ testedOf sys (listTests y s)) → r ≡ tested s
     unfolding tested sheetTests
     the-list z r h =
-        rw (sh, known-figures (systemIn s) (λ e. z (sequences-is ∙ e)))
-        (h (system (systemIn s)) last-is ∙ ap (λ (n : ℕ). testedOf n (listTests (system (systemIn s)) s)) is)
+        rw (sh, is-known (systemIn s) x named z)
+        (h (system (systemIn s)) (sym (last-is (systemIn s) x named)) ∙ ap (λ (n : ℕ). testedOf n (listTests (system (systemIn s)) s)) is)

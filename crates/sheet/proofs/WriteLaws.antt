@@ -86,7 +86,8 @@ shrinks : (s : List ℕ) → shownRow .fault s ≡ 0 → length (shownRow .rest 
 unfolding shownRow shownFault
 shrinks s e = go (ltb (length s) 7) (ltb (length s) (sizeIn s)) refl refl e
   where
-    go : (a b : Bool) → ltb (length s) 7 ≡ a → ltb (length s) (sizeIn s) ≡ b → _≡_ {A = ℕ} (cond (a || b) 14 0) 0 → length (drop (sizeIn s) s) < length s
+    go : (a b : Bool) → ltb (length s) 7 ≡ a → ltb (length s) (sizeIn s) ≡ b → _≡_ {A = ℕ} (cond (a || b) 14 0) 0
+        → length (drop (sizeIn s) s) < length s
     go true b p q e = absurd (omega arith)
     go false true p q e = absurd (omega arith)
     go false false p q e = let k = ltb-false (length s) 7 p in let l = length-drop (sizeIn s) s in omega arith
@@ -109,8 +110,9 @@ same-row zero i j s = go (shownRow .ends s)
     go true = refl
     go false = refl
 same-row (suc left) i j s =
-    go (shownRow .ends s) (eqb (shownRow .fault s) 0) (packetsIn shownRow left (suc i) (shownRow .rest s)) (packetsIn shownRow left (suc j) (shownRow .rest s))
-    (same-row left (suc i) (suc j) (shownRow .rest s))
+    let rest : List ℕ = shownRow .rest s in
+    go (shownRow .ends s) (eqb (shownRow .fault s) 0) (packetsIn shownRow left (suc i) rest) (packetsIn shownRow left (suc j) rest)
+    (same-row left (suc i) (suc j) rest)
   where
     go : (d z : Bool) (o q : Outcome) → noPlace o ≡ noPlace q
         → noPlace (cond d (listed []) (cond z (also (shownRow .packet s) o) (refused (shownRow .fault s) i)))
@@ -128,7 +130,8 @@ next (x ∷ s) h k =
     let l : length t ≡ length (x ∷ s) - sizeIn (x ∷ s) = length-drop (sizeIn (x ∷ s)) (x ∷ s) in
     let e = row-enough shownRow refl shrinks (length s) (length t) 1 t (omega arith) (omega arith) in
     rw (le-ltb (length (x ∷ s)) 7 h, le-ltb (length (x ∷ s)) (sizeIn (x ∷ s)) k)
-    (also-place (packetOfBytes (x ∷ s)) (packetsIn shownRow (length s) 1 t) (packetsIn shownRow (length t) 0 t) (ap noPlace e ∙ same-row (length t) 1 0 t))
+    (also-place (packetOfBytes (x ∷ s)) (packetsIn shownRow (length s) 1 t) (packetsIn shownRow (length t) 0 t)
+    (ap noPlace e ∙ same-row (length t) 1 0 t))
 
 -- ---- counting
 
@@ -196,7 +199,8 @@ record Cut (s : List ℕ) : Type 0 where
 whole-cut : (s : List ℕ) → Whole s → 0 < length s → Cut s
 whole-cut s w h = first (ltb (length s) 7) (ltb (length s) (sizeIn s)) refl refl
   where
-    taken : (p : Packet) (o q : Outcome) → o ≡ listed (listIn o) → noPlace o ≡ noPlace (also p q) → (listIn o ≡ p ∷ listIn q) × (q ≡ listed (listIn q))
+    taken : (p : Packet) (o q : Outcome) → o ≡ listed (listIn o) → noPlace o ≡ noPlace (also p q)
+        → (listIn o ≡ p ∷ listIn q) × (q ≡ listed (listIn q))
     taken p (refused n i) q w e = never (cc)
     taken p (listed ps) (refused n i) w e = never (cc)
     taken p (listed ps) (listed qs) w e = (cc, refl)

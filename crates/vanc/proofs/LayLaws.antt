@@ -99,7 +99,8 @@ bytes1 : (sizes : List ℕ) (ps : List Packet)
     → laidBytes 1 sizes ps ≡ flat (joined packs (map written ps)) ++ fill (sum sizes - 5 * sum (map packsOf ps))
 unfolding userBytes
 bytes1 sizes ps =
-    let n : sum (map packsOf (packetsOf (map written ps))) ≡ sum (map packsOf ps) = ap (λ (qs : List Packet). sum (map packsOf qs)) (written-back ps) in
+    let n : sum (map packsOf (packetsOf (map written ps))) ≡ sum (map packsOf ps) =
+    ap (λ (qs : List Packet). sum (map packsOf qs)) (written-back ps) in
     let l : length (flat (joined packs (map written ps))) ≡ 5 * sum (map packsOf ps) =
     flat-length (joined packs (map written ps)) ∙ ap (λ (m : ℕ). 5 * m) (packs-length (map written ps) ∙ n) in
     ap (λ (m : ℕ). flat (joined packs (map written ps)) ++ fill (sum sizes - m)) l

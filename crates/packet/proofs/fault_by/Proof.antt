@@ -1,5 +1,5 @@
--- `packet::fault_by` meets its contract. With the right table each test that is passed leaves the later ones of `wordsFault`, and CS is over both runs (`check-parts`).
--- Assumes nothing.
+-- `packet::fault_by` meets its contract. With the right table each test that is passed leaves the later ones of `wordsFault`, and CS is
+-- over both runs (`check-parts`). Assumes nothing.
 use Prim.Native.Nat.{ℕ, _+_, _-_}
 use mathlib.Core.Path.{_≡_, sym, _∙_, subst}
 use mathlib.Core.Logic.{⊎-elim}
@@ -179,7 +179,9 @@ returns-2 : tie.Need-returns-2
 returns-2 c = λ h. rw (past-flag (c .before .before .before .before .before), bad-head c h)
 
 returns-3 : tie.Need-returns-3
-returns-3 c = λ h. rw (past-head (c .before) h, lt-ltb (length (ws-head (c .before .before .before))) (dcIn (ws-head (c .before .before .before)) + 7) (omega arith))
+returns-3 c =
+    let ws : List ℕ = ws-head (c .before .before .before) in
+    λ h. rw (past-head (c .before) h, lt-ltb (length ws) (dcIn ws + 7) (omega arith))
 
 sub-pass-by : tie.Need-sub-pass-by
 sub-pass-by c = search needs

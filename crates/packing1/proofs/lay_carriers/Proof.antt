@@ -87,10 +87,14 @@ loop-less c = search needs
 loop-again : tie.Need-loop-again Inv-loop μ-loop
 loop-again c =
     let d = c .before .before .before .before .before .before .before .before .before .before .before in
-    let a = d .before .before .args in (
+    let a = d .before .before .args in
+    let fourth = c .before in
+    let third = fourth .before .before in
+    let second = third .before .before in
+    let first = second .before .before in (
       omega arith,
-      carriers-turn (a .ws .now) (a .us .now) _ _ (a .at) (d .loop .i) (d .loop .inv .1) (omega arith) (c .before .before .before .before .before .before .before .low .ensures)
-          (c .before .before .before .before .before .low2 .ensures) (c .before .before .before .low3 .ensures) (c .before .low4 .ensures) (c .put-five .ensures),
+      carriers-turn (a .ws .now) (a .us .now) _ _ (a .at) (d .loop .i) (d .loop .inv .1) (omega arith)
+          (first .low .ensures) (second .low2 .ensures) (third .low3 .ensures) (fourth .low4 .ensures) (c .put-five .ensures),
     )
 
 returns : tie.Need-returns Inv-loop μ-loop

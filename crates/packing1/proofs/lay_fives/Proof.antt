@@ -43,7 +43,9 @@ add-next-2 : tie.Need-add-next-2 Inv-loop μ-loop
 add-next-2 c = search needs
 
 returns-2 : tie.Need-returns-2 Inv-loop μ-loop
-returns-2 c = let d = c .before .before in fives-fit (d .before .loop-test .taken) (d .end-of .ensures) (d .before .before .loop .inv .3) (omega arith)
+returns-2 c =
+    let d = c .before .before in
+    fives-fit (d .before .loop-test .taken) (d .end-of .ensures) (d .before .before .loop .inv .3) (omega arith)
 
 mul-head1 : tie.Need-mul-head1 Inv-loop μ-loop
 mul-head1 c = search needs
@@ -79,7 +81,9 @@ head1-requires : tie.Need-head1-requires Inv-loop μ-loop
 head1-requires c κs = search needs
 
 lay-packet-requires : tie.Need-lay-packet-requires Inv-loop μ-loop
-lay-packet-requires c κs = let h = c .before .before .before .before .before .before .before .before .end-of .ensures .after (omega arith) in search needs
+lay-packet-requires c κs =
+    let h = c .before .before .before .before .before .before .before .before .end-of .ensures .after (omega arith) in
+    search needs
 
 add-k : tie.Need-add-k Inv-loop μ-loop
 add-k c = search needs
@@ -94,8 +98,8 @@ loop-again c =
       omega arith,
       omega arith,
       omega arith,
-      fives-turn (d .before .loop-test .taken) (d .end-of .ensures) (d .before .before .loop .inv .3) (c .before .before .before .before .head0 .ensures)
-          (c .before .before .head1 .ensures) (c .lay-packet .ensures),
+      fives-turn (d .before .loop-test .taken) (d .end-of .ensures) (d .before .before .loop .inv .3)
+          (c .before .before .before .before .head0 .ensures) (c .before .before .head1 .ensures) (c .lay-packet .ensures),
     )
 
 returns-3 : tie.Need-returns-3 Inv-loop μ-loop

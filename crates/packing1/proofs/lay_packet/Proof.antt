@@ -61,14 +61,21 @@ put-five-requires-2 c κs = search needs
 
 returns : tie.Need-returns
 returns c =
-    let a = c .before .before .before .before .before .before .before .before .before .before .before .before .args in
-    packet-rest (a .ws .now) (a .us .now) (a .at) (a .h0) (a .h1) ((length (a .ws .now) - 4) / 4 + 1) (c .before .before .before .before .before .before .before .before .before .put-five .ensures) (c .before .before .before .before .before .before .before .lay-carriers .ensures)
-    (omega arith) (omega arith) (c .before .before .before .low .ensures) (c .before .before .low-or-unused .ensures) (c .before .low-or-unused2 .ensures) (c .put-five2 .ensures)
+    let first = c .before .before .before in
+    let carriers = first .before .before .before .before in
+    let starter = carriers .before .before in
+    let a = starter .before .before .before .args in
+    packet-rest (a .ws .now) (a .us .now) (a .at) (a .h0) (a .h1) ((length (a .ws .now) - 4) / 4 + 1)
+    (starter .put-five .ensures) (carriers .lay-carriers .ensures) (omega arith) (omega arith)
+    (first .low .ensures) (c .before .before .low-or-unused .ensures) (c .before .low-or-unused2 .ensures) (c .put-five2 .ensures)
 
 returns-2 : tie.Need-returns-2
 returns-2 c =
-    let a = c .before .before .before .before .before .before .args in
-    packet-full (a .ws .now) (a .us .now) (a .at) (a .h0) (a .h1) ((length (a .ws .now) - 4) / 4 + 1) (c .before .before .before .put-five .ensures) (c .before .lay-carriers .ensures) (omega arith)
+    let carriers = c .before in
+    let starter = carriers .before .before in
+    let a = starter .before .before .before .args in
+    packet-full (a .ws .now) (a .us .now) (a .at) (a .h0) (a .h1) ((length (a .ws .now) - 4) / 4 + 1)
+    (starter .put-five .ensures) (carriers .lay-carriers .ensures) (omega arith)
 
 pub lay-packet-spec : {M : Type 1} → statement M
 lay-packet-spec =

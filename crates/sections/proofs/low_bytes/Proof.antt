@@ -41,9 +41,10 @@ loop-less c = search needs
 
 loop-again : tie.Need-loop-again Inv-loop μ-loop
 loop-again c =
-    let d = c .before .before .before in (
+    let d = c .before .before .before in
+    let ws = d .before .before .args .ws .now in (
       omega arith,
-      low-turn (d .before .before .args .ws .now) (d .loop .s) _ (d .loop .i) (c .before .before .loop-test .taken) (c .low .ensures) (d .loop .inv .1),
+      low-turn ws (d .loop .s) _ (d .loop .i) (c .before .before .loop-test .taken) (c .low .ensures) (d .loop .inv .1),
     )
 
 returns : tie.Need-returns Inv-loop μ-loop

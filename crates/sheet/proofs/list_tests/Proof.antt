@@ -93,7 +93,8 @@ returns-3 c =
     λ y e.
     let k = n .before .standing .ensures y e in
     c .refusal3 .ensures
-    ∙ differ _ y s _ p (b .before .before .before .before .pre) (omega arith) _ k (n .if2 .left) _ t (c .before .before .before .if3 .taken) (c .before .if4 .taken)
+    ∙ differ _ y s _ p (b .before .before .before .before .pre) (omega arith) _ k (n .if2 .left) _ t
+    (c .before .before .before .if3 .taken) (c .before .if4 .taken)
 
 returns-4 : tie.Need-returns-4
 returns-4 c =

@@ -109,11 +109,12 @@ loop-less c = search needs
 loop-again : tie.Need-loop-again Inv-loop μ-loop
 loop-again c =
     let b : tie.Else1 Inv-loop μ-loop = c .before .before in
-    let l = b .before .before .before .before .before .loop in
-    let i = b .before .before .before .before .loop-test .taken in
+    let in-turn = b .before .before .before .before in
+    let a = in-turn .before .before .before .before .args in
+    let l = in-turn .before .loop in
     let f = tested (b .before) in
     let d = c .wide .ensures .0 in
-    let o = at-next _ (ws b) i _ f (b .if1 .left) _ d (b .before .before .before .before .before .before .before .before .args .system) (l .k) (l .packs) in
+    let o = at-next _ (ws b) (in-turn .loop-test .taken) _ f (b .if1 .left) _ d (a .system) (l .k) (l .packs) in
     let m = there b in
     (omega arith, omega arith, omega arith, o ∙ l .inv .3)
 

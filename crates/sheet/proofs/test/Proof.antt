@@ -43,7 +43,8 @@ returns-2 : tie.Need-returns-2
 returns-2 c =
     let b : tie.After-wide = c .before .before .before .before in
     let s : List ℕ = b .before .before .before .before .before .args .s .now in
-    let o = unknown s (holds (b .before .before)) _ (b .wide .ensures .0) _ (c .before .before .before .figures-of .ensures) (c .before .if2 .taken) in
+    let x = c .before .before .before .figures-of .ensures in
+    let o = unknown s (holds (b .before .before)) _ (b .wide .ensures .0) _ x (c .before .if2 .taken) in
     tests _ _ (c .refusal2 .ensures ∙ o)
 
 list-tests-requires : tie.Need-list-tests-requires

@@ -69,7 +69,8 @@ module _ (s out : List ℕ) (at i : ℕ) (was : Locating s out at i) (h : at < l
       let k = was .left in
       omega arith
 
-  pub locating-more : (dc line flags : ℕ) → dc ≡ getD s (at + 5) 0 → line ≡ lineOf (getD s at 0) (getD s (at + 1) 0) → flags ≡ flagsOf (getD s (at + 1) 0)
+  pub locating-more : (dc line flags : ℕ) → dc ≡ getD s (at + 5) 0 → line ≡ lineOf (getD s at 0) (getD s (at + 1) 0)
+      → flags ≡ flagsOf (getD s (at + 1) 0)
       → Locating s (set (set out i line) (i + 1) flags) (at + (dc + 7)) (i + 2)
   locating-more dc line flags e f g =
       let p = pass s at dc (was .whole) h e in
@@ -198,7 +199,10 @@ module _ (s out : List ℕ) (at dc : ℕ) (was : Wording s out at) (h : at < len
               ∙ map-drop (end - at) (drop at s)
               ∙ ap (map word) (drop-drop (end - at) at s ∙ ap (λ (n : ℕ). drop n s) again);
           long = part-long out ys at end (omega arith) (omega arith) ys-long ∙ l;
-          rest = part-more out ys at end (omega arith) (omega arith) ys-long (allWords qs) ∙ ap (λ (v : List ℕ). take at out ++ v) (sym n) ∙ was .rest;
+          rest =
+              part-more out ys at end (omega arith) (omega arith) ys-long (allWords qs)
+              ∙ ap (λ (v : List ℕ). take at out ++ v) (sym n)
+              ∙ was .rest;
         }
 
 -- ---- the words of one packet

@@ -33,7 +33,9 @@ loop-less : tie.Need-loop-less Inv-loop μ-loop
 loop-less c = search needs
 
 loop-again : tie.Need-loop-again Inv-loop μ-loop
-loop-again c = (search needs, put-fill (c .before .loop .us) 1560 (c .before .before .args .to) (c .before .loop .i) (omega arith) ∙ c .before .loop .inv .1)
+loop-again c =
+    let d = c .before in
+    (search needs, put-fill (d .loop .us) 1560 (d .before .args .to) (d .loop .i) (omega arith) ∙ d .loop .inv .1)
 
 returns : tie.Need-returns Inv-loop μ-loop
 returns c =

@@ -1,4 +1,5 @@
--- `packing2::long::lay_long` meets its contract. Where the string fits, the rows laid are the system's blocks; elsewhere nothing is written. Assumes nothing.
+-- `packing2::long::lay_long` meets its contract. Where the string fits, the rows laid are the system's blocks; elsewhere nothing is
+-- written. Assumes nothing.
 use mathlib.Core.Path.{_≡_, refl, sym}
 use native.Mathlib.Omega.{arith}
 use lib.ListN.{length}

@@ -86,7 +86,8 @@ returns-2 c =
     let p = l d .before in
     let f = c .before .before .before .pull in
     frame-answer _ _ _ (p .before .before .rows-of .ensures .0) (p .pull-rows .ensures .1)
-    (turn-last (l d .loop .inv) (d .before .before .loop-test .taken) (long d) (f .ensures .0) (omega arith) (f .ensures .1) (omega arith) (c .last .ensures))
+    (turn-last (l d .loop .inv) (d .before .before .loop-test .taken) (long d)
+    (f .ensures .0) (omega arith) (f .ensures .1) (omega arith) (c .last .ensures))
 
 next-requires : tie.Need-next-requires Inv-loop μ-loop
 next-requires c κs = search needs
@@ -98,7 +99,8 @@ loop-again : tie.Need-loop-again Inv-loop μ-loop
 loop-again c =
     let d = c .before .before .before .before .before .before .before in
     let p = c .before .before .pull in
-    turn-more (l d .loop .inv) (d .before .before .loop-test .taken) (long d) (p .ensures .0) (omega arith) (p .ensures .1) (λ q. omega arith) (c .next .ensures)
+    turn-more (l d .loop .inv) (d .before .before .loop-test .taken) (long d)
+    (p .ensures .0) (omega arith) (p .ensures .1) (λ q. omega arith) (c .next .ensures)
 
 returns-3 : tie.Need-returns-3 Inv-loop μ-loop
 returns-3 c =

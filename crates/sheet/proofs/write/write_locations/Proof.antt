@@ -19,7 +19,9 @@ abbrev μ-loop : tie.MeasureT-loop
 -- in a turn the packet at `at` is whole, and there is room for its two numbers
 inside : (c : tie.In-loop Inv-loop μ-loop)
     → (let s = c .before .before .before .before .args .s .now in c .before .loop .at + (getD s (c .before .loop .at + 5) 0 + 7) ≤ length s)
-inside c = pass (c .before .before .before .before .args .s .now) (c .before .loop .at) _ (c .before .loop .inv .1 .whole) (c .loop-test .taken) refl .inside
+inside c =
+    let d = c .before in
+    pass (d .before .before .before .args .s .now) (d .loop .at) _ (d .loop .inv .1 .whole) (c .loop-test .taken) refl .inside
 
 room : (c : tie.In-loop Inv-loop μ-loop) → c .before .loop .i + 2 ≤ length (c .before .loop .out)
 room c =

@@ -17,7 +17,8 @@ long : (c : tie.After-write-locations)
     length (backOf (threeOf (a .out .now) 1 (a .system) (a .packets)) (c .write-locations .last .1 .0) (3 + 2 * a .packets)) ≡ length (a .out .now))
 long c =
     let a = c .before .before .before .before in
-    before-long (a .args .system) (a .args .packets) (a .args .s .now) (a .args .out .now) (c .write-locations .last .1 .0) (a .pre) (c .write-locations .ensures)
+    let pairs = c .write-locations in
+    before-long (a .args .system) (a .args .packets) (a .args .s .now) (a .args .out .now) (pairs .last .1 .0) (a .pre) (pairs .ensures)
 
 slice-write-out : tie.Need-slice-write-out
 slice-write-out c = search needs
@@ -78,7 +79,8 @@ write-packets-requires c κs =
     let d = c .before .before .before in
     let a = d .before .before .before .before in
     let pairs = d .write-locations in
-    (a .pre .whole, words-lent (a .args .system) (a .args .packets) (a .args .s .now) (a .args .out .now) (pairs .last .1 .0) (a .pre) (pairs .ensures))
+    let z = a .args in
+    (a .pre .whole, words-lent (z .system) (z .packets) (z .s .now) (z .out .now) (pairs .last .1 .0) (a .pre) (pairs .ensures))
 
 same-length : tie.Need-same-length
 same-length c =

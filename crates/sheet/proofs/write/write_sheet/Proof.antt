@@ -86,7 +86,8 @@ slice-relend-prefix-write-sections : tie.Need-slice-relend-prefix-write-sections
 slice-relend-prefix-write-sections c = search needs
 
 slice-aggregate-write-sections-2 : tie.Need-slice-aggregate-write-sections-2
-slice-aggregate-write-sections-2 c = sym (length-take-le _ (start (c .before .before .before .before) .args .sheet .now) (c .before .before .if2 .left))
+slice-aggregate-write-sections-2 c =
+    sym (length-take-le _ (start (c .before .before .before .before) .args .sheet .now) (c .before .before .if2 .left))
 
 write-sections-requires : tie.Need-write-sections-requires
 write-sections-requires c κs =
@@ -107,7 +108,8 @@ returns-3 c =
     let w = whole e in
     let l = long b in
     let n = 4 + 2 * b .measure .result + bytes b in
-    rw (same b) at (all-room (a .system) (s b) (a .sheet .now) (b .measure .result) n (w .0) (w .1) (omega arith) (omega arith) (d .last .1 .1 .1 .0) (d .ensures))
+    rw (same b) at
+    (all-room (a .system) (s b) (a .sheet .now) (b .measure .result) n (w .0) (w .1) (omega arith) (omega arith) (d .last .1 .1 .1 .0) (d .ensures))
 
 pub write-sheet-spec : {M : Type 1} → statement M
 write-sheet-spec =
