@@ -3,7 +3,7 @@
 -- In order: the header as it is written; the sum of bytes; a packet's faults; a step of the walker.
 -- Assumes nothing.
 use Prim.Native.Nat.{ℕ, suc, _+_, _-_, _*_, _/_, _%_, _≤_, _<_}
-use mathlib.Core.Path.{_≡_, refl, sym, ap, ap₂, _∙_}
+use mathlib.Core.Path.{_≡_, refl, sym, ap₂, _∙_}
 use mathlib.Core.Bool.{Bool, true, false, cond, not, _||_}
 use mathlib.Core.List.{List, [], _∷_, map}
 use native.Mathlib.Nat.{le-of-eq}
@@ -13,14 +13,14 @@ use lib.ListN.{length, getD, take, drop, length-drop, length-take}
 use lib.Seq.{length-take-le, getD-take, getD-drop, take-all}
 use borrow.Author.Tests.{ltb-false, leb-true, leb-false, eqb-true, lt-ltb, le-ltb, eq-eqb, ne-eqb, le-leb, lt-leb}
 use Rattle.rules.specs.Base.{sum}
-use Rattle.rules.specs.Systems.{System, known, system, stands}
+use Rattle.rules.specs.Systems.{System, system, stands}
 use Rattle.rules.specs.Packet.{Packet, parity, word, sum9, check, coded, checkOf}
 use Rattle.rules.specs.Danc.{written, header}
 use Rattle.rules.specs.Reading.{lineIn, lineOf, packetOfBytes, lineFault, bytesFault, stringFault}
 use Rattle.rules.specs.Walker.{step, walk}
 use Rattle.frame.specs.Systems.{figuresOf}
 use Rattle.frame.specs.declared.Figures.{Figures}
-use Rattle.frame.proofs.Laws.{unknown-figures, known-figures}
+use Rattle.frame.proofs.Laws.{is-unknown, is-known}
 
 -- ---- the header as it is written
 
@@ -166,26 +166,15 @@ run-room y us end at n w z =
 
 -- from what the code holds: the system's figures
 module _ (sys : ℕ) (f : Figures) (e : f ≡ figuresOf sys) where
-  sequences-of : f .sequences ≡ system sys .sequences
-  unfolding figuresOf
-  sequences-of = ap (λ (g : Figures). g .sequences) e
-
-  pub last-of : system sys .last ≡ f .«last_line» .0
-  unfolding figuresOf
-  last-of = sym (ap (λ (g : Figures). g .«last_line» .0) e)
-
-  is-known : (f .sequences ≡ 0 → ⊥) → known sys ≡ true
-  is-known h = known-figures sys (λ z. h (sequences-of ∙ z))
-
   module _ (s : List ℕ) (at : ℕ) where
     pub step-unknown : f .sequences ≡ 0 → step 3 0 0 ≡ walk sys s at
     unfolding walk
-    step-unknown z = rw (unknown-figures sys (sym sequences-of ∙ z))
+    step-unknown z = rw (is-unknown sys f e z)
 
     module _ (h : f .sequences ≡ 0 → ⊥) where
       pub step-end : length s ≤ at → step 0 at 0 ≡ walk sys s at
       unfolding walk
-      step-end l = rw (is-known h, le-leb (length s) at l)
+      step-end l = rw (is-known sys f e h, le-leb (length s) at l)
 
       -- the number that the tests of the packet give
       module _ (l : at < length s) (n : ℕ) (w : n ≡ stringFault (system sys) (take (length s - at) (drop at s))) where
@@ -194,10 +183,10 @@ module _ (sys : ℕ) (f : Figures) (e : f ≡ figuresOf sys) where
 
         pub step-fault : (n ≡ 0 → ⊥) → step n at 0 ≡ walk sys s at
         unfolding walk
-        step-fault k = rw (is-known h, lt-leb (length s) at l, ← fault-at, ne-eqb n 0 k)
+        step-fault k = rw (is-known sys f e h, lt-leb (length s) at l, ← fault-at, ne-eqb n 0 k)
 
         pub step-packet : n ≡ 0 → (dc : ℕ) → dc ≡ getD s (at + 5) 0 → step 0 at (dc + 7) ≡ walk sys s at
         unfolding walk
         step-packet z dc d =
             let k : stringFault (system sys) (drop at s) ≡ 0 = sym fault-at ∙ z in
-            rw (is-known h, lt-leb (length s) at l, k, getD-drop at s 5 0, d)
+            rw (is-known sys f e h, lt-leb (length s) at l, k, getD-drop at s 5 0, d)

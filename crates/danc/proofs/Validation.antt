@@ -2,8 +2,8 @@
 --
 -- In order: the numbers of faults; the end; 5; a fault; one packet more.
 -- Assumes nothing.
-use Prim.Native.Nat.{ℕ, zero, suc, _+_, _-_, _*_, _%_, _≤_}
-use mathlib.Core.Path.{_≡_, refl, sym, ap, _∙_}
+use Prim.Native.Nat.{ℕ, zero, suc, _+_, _-_, _*_, _%_, _≤_, _<_}
+use mathlib.Core.Path.{_≡_, sym, ap, _∙_}
 use mathlib.Core.Bool.{Bool, true, false, cond, not, _||_}
 use mathlib.Core.List.{List}
 use native.Mathlib.Omega.{arith}
@@ -13,14 +13,16 @@ use lib.ListN.{length, getD, take, drop, length-drop}
 use lib.Seq.{length-take-le, getD-take, getD-drop, drop-drop}
 use borrow.Author.Tests.{ne-eqb}
 use Rattle.rules.specs.Systems.{System}
-use Rattle.rules.specs.Packet.{Packet, checkOf}
+use Rattle.rules.specs.Packet.{checkOf}
 use Rattle.rules.specs.Danc.{bytesOf}
 use Rattle.rules.specs.Sheet.{limit}
-use Rattle.rules.specs.Numbers.{Outcome, listed, refused, also, packetsIn}
+use Rattle.rules.specs.Numbers.{refused, also, packetsIn}
 use Rattle.rules.specs.Reading.{packetOfBytes, lineFault, bytesFault, stringFault, stringEnds, stringRow}
-use Rattle.danc.specs.Validated.{codeOf, validated}
+use Rattle.danc.specs.Code.{base, codeOf}
+use Rattle.danc.specs.Validated.{validated}
 use Rattle.rules.proofs.Basics.{drop-take}
 use Rattle.danc.proofs.Laws.{fault-room, run-room}
+use Rattle.danc.proofs.Codes.{code-also}
 
 -- no fault has a number over 16
 pub fault-small : (y : System) (s : List ℕ) → stringFault y s ≤ 16
@@ -35,14 +37,9 @@ fault-small y s =
     go false false true = omega arith
     go false false false = omega arith
 
--- the same of a number that a test gave
-pub is-small : (y : System) (s : List ℕ) (n : ℕ) → n ≡ stringFault y s → n ≤ 16
-is-small y s n e = rw e (fault-small y s)
-
--- one packet more in front
-code-also : (at k : ℕ) (p : Packet) (o : Outcome) → codeOf at k (also p o) ≡ codeOf (at + bytesOf p) (k + 1) o
-code-also at k p (listed ps) = omega arith
-code-also at k p (refused n i) = refl
+-- the same of a number that a test gave: a refusal has room for it
+pub is-small : (y : System) (s : List ℕ) (n : ℕ) → n ≡ stringFault y s → n < base
+is-small y s n e = let h = fault-small y s in omega arith
 
 -- from what the code holds: a part of the run that the string is the front of, and the tests of it
 module _ (y : System) (room : ℕ) (us : List ℕ) (end at k : ℕ) where
@@ -56,14 +53,14 @@ module _ (y : System) (room : ℕ) (us : List ℕ) (end at k : ℕ) where
   rest-is : rest ≡ part
   rest-is = drop-take at end us
 
-  pub at-end : true ≡ stringEnds room part → k + 1024 * at ≡ validated y room (take end us) at k
+  pub at-end : true ≡ stringEnds room part → k + base * at ≡ validated y room (take end us) at k
   unfolding validated stringRow
   at-end e = go (limit - k)
     where
       f : stringEnds room rest ≡ true
       f = ap (stringEnds room) rest-is ∙ sym e
 
-      go : (left : ℕ) → k + 1024 * at ≡ codeOf at k (packetsIn (stringRow y room) left k rest)
+      go : (left : ℕ) → k + base * at ≡ codeOf at k (packetsIn (stringRow y room) left k rest)
       go zero = rw f (omega arith)
       go (suc left) = rw f (omega arith)
 
@@ -71,22 +68,24 @@ module _ (y : System) (room : ℕ) (us : List ℕ) (end at k : ℕ) where
     goes-on : stringEnds room rest ≡ false
     goes-on = ap (stringEnds room) rest-is ∙ sym e
 
-    pub at-limit : k ≡ 512 → 1073741824 + 1024 * 5 + k ≡ validated y room (take end us) at k
-    unfolding validated stringRow limit
-    at-limit h = let z : 512 - k ≡ 0 = omega arith in rw (z, goes-on)
+    pub at-limit : k ≡ limit → codeOf 0 0 (refused 5 k) ≡ validated y room (take end us) at k
+    unfolding validated stringRow
+    at-limit h = let z : limit - k ≡ 0 = omega arith in rw (z, goes-on)
 
-    module _ (l : k ≤ limit) (h : k ≡ 512 → ⊥) (n : ℕ) (w : n ≡ stringFault y part) where
+    module _ (l : k ≤ limit) (h : k ≡ limit → ⊥) (n : ℕ) (w : n ≡ stringFault y part) where
       fault-at : stringFault y rest ≡ n
       fault-at = ap (stringFault y) rest-is ∙ sym w
 
       one-packet : packetsIn (stringRow y room) (limit - k) k rest
-          ≡ cond (eqb n 0) (also (packetOfBytes rest) (packetsIn (stringRow y room) (limit - (k + 1)) (k + 1) (drop (getD rest 5 0 + 7) rest))) (refused n k)
-      unfolding stringRow limit
+          ≡ cond (eqb n 0)
+          (also (packetOfBytes rest) (packetsIn (stringRow y room) (limit - (k + 1)) (k + 1) (drop (getD rest 5 0 + 7) rest)))
+          (refused n k)
+      unfolding stringRow
       one-packet =
-          let z : 512 - k ≡ suc (512 - (k + 1)) = omega arith in
+          let z : limit - k ≡ suc (limit - (k + 1)) = omega arith in
           rw (z, goes-on, fault-at, add-one k)
 
-      pub at-fault : (n ≡ 0 → ⊥) → 1073741824 + 1024 * n + k ≡ validated y room (take end us) at k
+      pub at-fault : (n ≡ 0 → ⊥) → codeOf 0 0 (refused n k) ≡ validated y room (take end us) at k
       unfolding validated
       at-fault f = rw (one-packet, ne-eqb n 0 f)
 

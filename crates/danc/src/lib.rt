@@ -1,5 +1,6 @@
 // The DANC packet and the string: header bytes, a packet's faults, the walker's step, the validation of a string.
 // Document 01, "The packet", "Numbers given back" (5, 14 to 16), "The walker"; 001, figure 6. Quotations are from document 01.
+use frame::LIMIT;
 use frame::Line;
 use frame::StringByte;
 use frame::figures_of;
@@ -12,9 +13,11 @@ ghost use lib.Dec.{eqb};
 ghost use lib.ListN.{length, getD, take};
 ghost use Rattle.rules.specs.Base.{allIs, sum};
 ghost use Rattle.rules.specs.Systems.{System};
+ghost use Rattle.rules.specs.Numbers.{refused};
 ghost use Rattle.rules.specs.Reading.{flagsOf, lineFault, bytesFault, stringFault, stringEnds};
 ghost use Rattle.rules.specs.Walker.{step, walk as walked};
 ghost use Rattle.danc.specs.Header.{lineRead};
+ghost use Rattle.danc.specs.Code.{base, codeOf};
 ghost use Rattle.danc.specs.Validated.{Within, validated};
 
 // Header byte 0 (001, figure 6). "LE is 1 where there is a line."
@@ -142,13 +145,14 @@ pub fn walk(system: u64, string: &[u8], place: StringByte) -> Step
     answer(0, place.0, wide(string[at + 5]) as u64 + 7)
 }
 
-// "5 | .. reading: after 512 packets, not the end"
-const LIMIT: usize = 512;
-
 // No frame has more user bytes than 1,872 packs of 5, so no string is longer.
 const LONGEST: usize = 9360;
 
-// From here on an answer of `validate` is a refusal: no count and place come so far.
+// An outcome is answered as one number: a count of packets below this, and this times a place of the string. It is over
+// the packet limit, so that both can be taken out again.
+pub const BASE: usize = 2048;
+
+// From here on such a number is a refusal: its packet, and `BASE` times its number.
 pub const REFUSED: usize = 1073741824;
 
 // Whether every byte is FFh, with one test at the end: a test for each byte is slower.
@@ -175,23 +179,23 @@ fn ends(room: usize, s: &[u8]) -> bool
     false
 }
 
-// A refusal's number and its packet in one number, past every count and place.
-fn refusal(number: u64, packet: usize) -> usize
-    requires { ⌜ (number ≤ 16) × (packet < 1024) ⌝ }
-    ensures { λ r. ⌜ r ≡ 1073741824 + 1024 * number + packet ⌝ }
+// A refusal's number and its packet as one number. Both are cut to their room, so that any fit.
+pub fn refusal(number: u64, packet: usize) -> usize
+    ensures { λ r. ⌜ r ≡ codeOf 0 0 (refused (number % base) (packet % base)) ⌝ }
 {
-    REFUSED + 1024 * (number as usize) + packet
+    REFUSED + BASE * (number as usize % BASE) + packet % BASE
 }
 
 // "A string is nothing, or one packet and then a string that is shorter by that packet": the bytes left fall at each call. At a
-// packet boundary the end is tested, then 5, 14, 15, 16. Over an array, and with a number as answer, the calls become a loop.
+// packet boundary the end is tested, then "5 | .. after 512 packets, not the end", 14, 15, 16. Over an array, and with a number as
+// answer, the calls become a loop.
 fn packets_from(last: Line, room: usize, us: &[u8; 9360], end: usize, at: usize, k: usize) -> usize
     requires { ⌜ (length (now us) ≡ 9360) × Within end at k ⌝ }
     ensures { λ r. ⌜ ((y : System) → y .last ≡ last .0 → r ≡ validated y room (take end (now (us .entry))) at k) ⌝ }
 {
     let s = &us[..];
     if ends(room, &s[at..end]) {
-        return k + 1024 * at;
+        return k + BASE * at;
     }
     if k == LIMIT {
         return refusal(5, k);
@@ -204,7 +208,7 @@ fn packets_from(last: Line, room: usize, us: &[u8; 9360], end: usize, at: usize,
     packets_from(last, room, us, end, at + size, k + 1)
 }
 
-// The string that ends at `end`, from place `at` on, where packet k begins: the packets with those before it, and 1,024 times the place
+// The string that ends at `end`, from place `at` on, where packet k begins: the packets with those before it, and `BASE` times the place
 // where the last ends; or from `REFUSED` on a refusal. Out of the bounds of a frame nothing is read, so that no sum can wrap.
 pub fn validate(last: Line, room: usize, us: &[u8; 9360], end: usize, at: usize, k: usize) -> usize
     ensures { λ r. ⌜ ((y : System) → y .last ≡ last .0 → Within end at k → r ≡ validated y room (take end (now (us .entry))) at k) ⌝ }

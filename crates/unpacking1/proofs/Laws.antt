@@ -7,6 +7,7 @@ use Prim.Native.Nat.{ℕ, zero, suc, _+_, _-_, _*_, _/_, _%_, _≤_, _<_}
 use mathlib.Core.Path.{_≡_, refl, sym, ap, ap₂, _∙_, subst}
 use mathlib.Core.Bool.{Bool, true, false, cond, _&&_, _||_}
 use mathlib.Core.List.{List, [], _∷_, _++_, append-nil, append-assoc}
+use native.Mathlib.Nat.{sub-zero}
 use native.Mathlib.Omega.{arith}
 use native.Mathlib.Numerals.{add-one, add-two, add-three, add-four, add-five, add-six, add-seven}
 use lib.Dec.{eqb, leb}
@@ -24,8 +25,11 @@ use Rattle.rules.specs.Reading.{packetOfBytes, bytesFault, stringFault, lead, c
 use Rattle.rules.proofs.Basics.{never, both, second-false, take-bytes, drop-bytes, drop-take, sets-front, sets-behind, joined-append, all-append}
 use Rattle.rules.proofs.Strings.{danc-length, itemOf, bytes-laid, string-room}
 use Rattle.rules.proofs.Packs.{flat-fives, flat-length, lead-within}
-use Rattle.danc.proofs.Validation.{fault-small}
-use Rattle.unpacking1.specs.Open.{packsAt, Within, used, orderFrom, SameOrder, fits, PacksEnd, allCarriers, Moved, CarriersOpened, PacketOpened, codeOf, Opens, packetsFrom, packetsOfFives}
+use Rattle.danc.specs.Code.{base, codeOf}
+use Rattle.danc.proofs.Laws.{lastOnly}
+use Rattle.danc.proofs.Codes.{refusal-code}
+use Rattle.danc.proofs.Validation.{is-small}
+use Rattle.unpacking1.specs.Open.{packsAt, Within, used, orderFrom, SameOrder, fits, PacksEnd, allCarriers, Moved, CarriersOpened, PacketOpened, Opens, packetsFrom, packetsOfFives}
 
 -- ---- bytes that are written and bytes that are kept
 
@@ -732,17 +736,20 @@ front-bytes-length p ps =
 
 -- ---- packets opened one after the other
 
--- the packets before packet k stand in the first w bytes; what is read from r on is the rest
+-- the packets before packet k, opened, stand as a string in the first w bytes; what is read from r on is the rest
 pub record Done (y : System) (before us : List ℕ) (total r w k : ℕ) : Type 0 where
   pub items : List Item
   pub good : All (Good y) items
   pub many : length items ≡ k
   pub laid : take w us ≡ string items
-  pub rest : packetsFrom y (packsAt before 0 total) ≡ alsoAll (packetsOf items) (packetsIn (packRow y) (512 - k) k (packsAt before r total))
+  pub rest : packetsFrom y (packsAt before 0 total)
+      ≡ alsoAll (packetsOf items) (packetsIn (packRow y) (limit - k) k (packsAt before r total))
 
+-- what holds when packet k is next: `us` are the bytes that were `before`, opened up to r, where a pack begins
 pub record Opening (last : ℕ) (before us : List ℕ) (total fill r w k : ℕ) : Type 0 where
+  pub room : total ≤ length before
   pub low : w ≤ r
-  pub few : k ≤ 512
+  pub few : k ≤ limit
   pub whole : (total - r) % 5 ≡ 0
   pub reach : r ≤ total
   pub before-fill : r + 5 * used (packsAt before r total) ≡ fill
@@ -750,10 +757,12 @@ pub record Opening (last : ℕ) (before us : List ℕ) (total fill r w k : ℕ) 
   pub kept : drop r us ≡ drop r before
   pub done : (y : System) → y .last ≡ last → Done y before us total r w k
 
-pub opening-none : (last : ℕ) (us : List ℕ) (total fill : ℕ) → total % 5 ≡ 0 → fill ≡ 5 * used (packsAt us 0 total) → Opening last us us total fill 0 0 0
-unfolding limit
-opening-none last us total fill m f =
+-- nothing is opened yet
+pub opening-none : (last : ℕ) (us : List ℕ) (total fill : ℕ) → total ≤ length us → total % 5 ≡ 0 → fill ≡ 5 * used (packsAt us 0 total)
+    → Opening last us us total fill 0 0 0
+opening-none last us total fill l m f =
     record {
+      room = l;
       low = omega arith;
       few = omega arith;
       whole = omega arith;
@@ -761,14 +770,19 @@ opening-none last us total fill m f =
       before-fill = omega arith;
       long = refl;
       kept = refl;
-      done = λ y e. record { items = []; good = none; many = refl; laid = refl; rest = refl };
+      done = λ y e. record { items = []; good = none; many = refl; laid = refl; rest = from-first y };
     }
+  where
+    from-first : (y : System) → packetsFrom y (packsAt us 0 total) ≡ packetsIn (packRow y) (limit - 0) 0 (packsAt us 0 total)
+    from-first y = ap (λ (n : ℕ). packetsIn (packRow y) n 0 (packsAt us 0 total)) (sym (sub-zero limit))
 
--- a refusal leaves nothing to say of the bytes
-pub refused-opens : (y : System) (o : Outcome) (n k r : ℕ) (us : List ℕ) → o ≡ refused n k → r ≡ 1073741824 + 1024 * n + k → Opens y o r us
-refused-opens y o n k r us e q = record { answer = q ∙ ap codeOf (sym e); string = λ ps f. never (cc) }
+-- a refusal leaves nothing to say of the bytes. Number and packet have room in the number that `refusal` answers
+pub refused-opens : {y : System} {o : Outcome} {n k r : ℕ} {us : List ℕ} → o ≡ refused n k → n < base → k < base
+    → r ≡ codeOf 0 0 (refused (n % base) (k % base)) → Opens y o r us
+refused-opens {y} {o} {n} {k} {r} e h j q =
+    record { answer = refusal-code r n k q h j ∙ ap (codeOf 0 0) (sym e); string = λ ps f. never (cc) }
 
-module _ (last : ℕ) (before us : List ℕ) (total fill r w k : ℕ) (room : total ≤ length before) (v : Opening last before us total fill r w k) where
+module _ {last : ℕ} {before us : List ℕ} {total fill r w k : ℕ} (v : Opening last before us total fill r w k) where
   -- the packs that are left
   abbrev left : List Five
   left = packsAt before r total
@@ -777,32 +791,37 @@ module _ (last : ℕ) (before us : List ℕ) (total fill r w k : ℕ) (room : to
   left-us = kept-packs us before r (v .kept) r total (omega arith)
 
   -- all packets, from those before packet k and what is read from there on
-  whole-is : (y : System) → (e : y .last ≡ last) → (o : Outcome) → packetsIn (packRow y) (512 - k) k left ≡ o
+  whole-is : (y : System) (e : y .last ≡ last) (o : Outcome) → packetsIn (packRow y) (limit - k) k left ≡ o
       → packetsFrom y (packsAt before 0 total) ≡ alsoAll (packetsOf (v .done y e .items)) o
   whole-is y e o q = v .done y e .rest ∙ ap (alsoAll (packetsOf (v .done y e .items))) q
 
-  refused-is : (y : System) → y .last ≡ last → (n : ℕ) → packetsIn (packRow y) (512 - k) k left ≡ refused n k → packetsFrom y (packsAt before 0 total) ≡ refused n k
+  refused-is : (y : System) → y .last ≡ last → (n : ℕ) → packetsIn (packRow y) (limit - k) k left ≡ refused n k
+      → packetsFrom y (packsAt before 0 total) ≡ refused n k
   refused-is y e n q = whole-is y e (refused n k) q ∙ also-refused (packetsOf (v .done y e .items)) n k
 
   -- the end
   module _ (stops : fill ≤ r) (ends : packsEnd (packsAt before fill total) ≡ true) where
     left-ends : packsEnd left ≡ true
-    left-ends = let b = v .before-fill in let e : r ≡ fill = omega arith in ap (λ (a : ℕ). packsEnd (packsAt before a total)) e ∙ ends
+    left-ends =
+        let b = v .before-fill in
+        let e : r ≡ fill = omega arith in
+        ap (λ (a : ℕ). packsEnd (packsAt before a total)) e ∙ ends
 
-    pub opening-done : (y : System) → y .last ≡ last → Opens y (packetsFrom y (packsAt before 0 total)) (k + 1024 * w) us
+    pub opening-done : (y : System) → y .last ≡ last → Opens y (packetsFrom y (packsAt before 0 total)) (k + base * w) us
     opening-done y e =
         let d = v .done y e in
         let xs : List Item = d .items in
         let o : packetsFrom y (packsAt before 0 total) ≡ listed (packetsOf xs) =
-        whole-is y e (listed []) (packs-ended y left k (512 - k) left-ends) ∙ also-listed (packetsOf xs) in
+        whole-is y e (listed []) (packs-ended y left k (limit - k) left-ends) ∙ also-listed (packetsOf xs) in
         let m : length (packetsOf xs) ≡ k = length-map xs (λ (x : Item). x .packet) ∙ d .many in
         let a = v .low in
         let b = v .reach in
         let c = v .long in
+        let j = v .room in
         let t : length (take w us) ≡ w = length-take-le w us (omega arith) in
         let n : w ≡ stringBytes (packetsOf xs) = sym t ∙ ap length (d .laid) ∙ string-room xs in
         record {
-          answer = (let z : k + 1024 * w ≡ length (packetsOf xs) + 1024 * stringBytes (packetsOf xs) = omega arith in z) ∙ ap codeOf (sym o);
+          answer = (let z : k + base * w ≡ codeOf 0 0 (listed (packetsOf xs)) = omega arith in z) ∙ ap (codeOf 0 0) (sym o);
           string =
               λ ps q.
               let p : packetsOf xs ≡ ps = cc in
@@ -820,28 +839,35 @@ module _ (last : ℕ) (before us : List ℕ) (total fill r w k : ℕ) (room : to
     fill-within =
         let b = v .before-fill in
         let u = used-within left in
-        let l = packs-length before r total (v .reach) room (v .whole) in
+        let l = packs-length before r total (v .reach) (v .room) (v .whole) in
         omega arith
 
     pub packet-within : Within us r total
-    packet-within = let f = fill-within in let l = v .long in record { one = omega arith; all = omega arith; whole = v .whole }
+    packet-within =
+        let f = fill-within in
+        let l = v .long in
+        let m = v .room in
+        record { one = omega arith; all = omega arith; whole = v .whole }
 
     left-goes : packsEnd left ≡ false
     left-goes = let b = v .before-fill in used-goes left (omega arith)
 
-    pub refused-five : k ≡ 512 → (y : System) → y .last ≡ last → packetsFrom y (packsAt before 0 total) ≡ refused 5 k
-    refused-five q y e = let z : 512 - k ≡ 0 = omega arith in refused-is y e 5 (ap (λ (n : ℕ). packetsIn (packRow y) n k left) z ∙ packs-full y left k left-goes)
+    pub refused-five : k ≡ limit → (y : System) → y .last ≡ last → packetsFrom y (packsAt before 0 total) ≡ refused 5 k
+    refused-five q y e =
+        let z : limit - k ≡ 0 = omega arith in
+        refused-is y e 5 (ap (λ (n : ℕ). packetsIn (packRow y) n k left) z ∙ packs-full y left k left-goes)
 
-    module _ (few : k ≡ 512 → ⊥) where
-      more : 512 - k ≡ suc (512 - (k + 1))
+    module _ (few : k ≡ limit → ⊥) where
+      more : limit - k ≡ suc (limit - (k + 1))
       more = let f = v .few in omega arith
 
-      refused-fault : (n : ℕ) → (n ≡ 0 → ⊥) → (y : System) → y .last ≡ last → packsFault y left ≡ n → packetsFrom y (packsAt before 0 total) ≡ refused n k
+      refused-fault : (n : ℕ) → (n ≡ 0 → ⊥) → (y : System) → y .last ≡ last → packsFault y left ≡ n
+          → packetsFrom y (packsAt before 0 total) ≡ refused n k
       refused-fault n z y e f =
-          refused-is y e n (ap (λ (m : ℕ). packetsIn (packRow y) m k left) more ∙ packs-fault y left k (512 - (k + 1)) n left-goes f z)
+          refused-is y e n (ap (λ (m : ℕ). packetsIn (packRow y) m k left) more ∙ packs-fault y left k (limit - (k + 1)) n left-goes f z)
 
       -- after the packet was opened
-      module _ (after : List ℕ) (next : ℕ) (o : PacketOpened us after r total w next) where
+      module _ {after : List ℕ} {next : ℕ} (o : PacketOpened us after r total w next) where
         pub refused-fourteen : next ≡ 0 → (y : System) → y .last ≡ last → packetsFrom y (packsAt before 0 total) ≡ refused 14 k
         refused-fourteen q y e =
             let f : fits left ≡ false = ap fits (sym left-us) ∙ o .shut q in
@@ -861,7 +887,11 @@ module _ (last : ℕ) (before us : List ℕ) (total fill r w k : ℕ) (room : to
           left-fits = ap fits (sym left-us) ∙ o .passes z
 
           left-is : left ≡ packAt before r ∷ later
-          left-is = let i = packet-within in let a = i .one in let b = i .whole in packs-cons before r total (omega arith) room
+          left-is =
+              let i = packet-within in
+              let a = i .one in
+              let b = i .whole in
+              packs-cons before r total (omega arith) (v .room)
 
           parts : (getD before r 0 ≡ 0xE1) × (lead later ≡ carriersFor size)
           parts =
@@ -884,7 +914,7 @@ module _ (last : ℕ) (before us : List ℕ) (total fill r w k : ℕ) (room : to
           behind-is =
               let i = o .within in
               let n = next-is in
-              ap (λ (a : ℕ). packsAt before a total) n ∙ sym (packs-drop (lead later) before (r + 5) total (omega arith) room)
+              ap (λ (a : ℕ). packsAt before a total) n ∙ sym (packs-drop (lead later) before (r + 5) total (omega arith) (v .room))
 
           after-is : afterCarriers left ≡ packsAt before next total
           after-is = ap afterCarriers left-is ∙ sym behind-is
@@ -902,9 +932,14 @@ module _ (last : ℕ) (before us : List ℕ) (total fill r w k : ℕ) (room : to
           moved-laid = rw left-us at (o .moved z .laid)
 
           front-long : length (take w us) ≡ w
-          front-long = let a = v .low in let b = v .reach in let c = v .long in length-take-le w us (omega arith)
+          front-long =
+              let a = v .low in
+              let b = v .reach in
+              let c = v .long in
+              let d = v .room in
+              length-take-le w us (omega arith)
 
-          pub size-is : getD after (w + 5) 0 ≡ size
+          size-is : getD after (w + 5) 0 ≡ size
           size-is = let l = bytes-long in window-at after (take w us) bytes w front-long moved-laid 5 (omega arith)
 
           pub size-within : w + size + 7 ≤ next
@@ -969,9 +1004,10 @@ module _ (last : ℕ) (before us : List ℕ) (total fill r w k : ℕ) (room : to
                         ∙ ap₂ (λ (a b : List ℕ). a ++ b) (d .laid) (x .0)
                         ∙ sym (string-later (d .items) item);
                     rest =
-                        whole-is y e _ (ap (λ (m : ℕ). packetsIn (packRow y) m k left) more ∙ packs-goes y left k (512 - (k + 1)) left-goes f)
+                        whole-is y e _
+                        (ap (λ (m : ℕ). packetsIn (packRow y) m k left) more ∙ packs-goes y left k (limit - (k + 1)) left-goes f)
                         ∙ also-later (d .items) item _
-                        ∙ ap₂ (λ (m : ℕ) (s : List Five). alsoAll (packetsOf (d .items ++ item ∷ [])) (packetsIn (packRow y) (512 - (k + 1)) m s))
+                        ∙ ap₂ (λ (m : ℕ) (s : List Five). alsoAll (packetsOf (d .items ++ item ∷ [])) (packetsIn (packRow y) (limit - (k + 1)) m s))
                         (sym (add-one k)) after-is;
                   }
 
@@ -981,6 +1017,7 @@ module _ (last : ℕ) (before us : List ℕ) (total fill r w k : ℕ) (room : to
                   let b = v .whole in
                   let n = next-is in
                   record {
+                    room = v .room;
                     low = size-within;
                     few = omega arith;
                     whole = omega arith;
@@ -992,22 +1029,24 @@ module _ (last : ℕ) (before us : List ℕ) (total fill r w k : ℕ) (room : to
                   }
 
           -- the same, where d is DC as it is read after the packet was opened, and n the fault of the bytes
-          module _ (d : ℕ) (e : d ≡ getD after (w + 5) 0) where
+          module _ {d : ℕ} (e : d ≡ getD after (w + 5) 0) where
             pub size-below : w + d + 7 ≤ next
             size-below = let a = size-within in let b = e ∙ size-is in omega arith
 
-            module _ (n : ℕ) (q : (y : System) → y .last ≡ last → n ≡ stringFault y (take (w + d + 7 - w) (drop w after))) where
+            module _ {n : ℕ} (q : (y : System) → y .last ≡ last → n ≡ stringFault y (take (w + d + 7 - w) (drop w after))) where
               same-fault : (y : System) → y .last ≡ last → n ≡ stringFault y (take (w + size + 7 - w) (drop w after))
               same-fault y f = q y f ∙ ap (λ (m : ℕ). stringFault y (take (w + m + 7 - w) (drop w after))) (e ∙ size-is)
 
               pub refused-other : (n ≡ 0 → ⊥) → (y : System) → y .last ≡ last → packetsFrom y (packsAt before 0 total) ≡ refused n k
               refused-other m = refused-bytes n same-fault m
 
-              pub opening-more : n ≡ 0 → Bytes after → length after ≡ length us → Opening last before after total fill next (w + d + 7) (k + 1)
+              pub opening-more : n ≡ 0 → Bytes after → length after ≡ length us
+                  → Opening last before after total fill next (w + d + 7) (k + 1)
               opening-more f b l = rw (e ∙ size-is) (opening-next n same-fault f b l)
 
-pub fault-below : (last n : ℕ) (s : List ℕ) → ((y : System) → y .last ≡ last → n ≡ stringFault y s) → n ≤ 16
-fault-below last n s q = let y : System = record { sequences = 0; last = last } in let a = q y refl in let b = fault-small y s in omega arith
+-- a fault's number has room in the number of a refusal
+pub fault-below : {last n : ℕ} (s : List ℕ) → ((y : System) → y .last ≡ last → n ≡ stringFault y s) → n < base
+fault-below {last} {n} s q = is-small (lastOnly last) s n (q (lastOnly last) refl)
 
 -- ---- all of it
 

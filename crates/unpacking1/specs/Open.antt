@@ -14,8 +14,9 @@ use Rattle.rules.specs.Packet.{Packet}
 use Rattle.rules.specs.Danc.{Item, Good, packetsOf, string, stringBytes}
 use Rattle.rules.specs.Sheet.{limit}
 use Rattle.rules.specs.Packing1.{Five, fives}
-use Rattle.rules.specs.Numbers.{Outcome, listed, refused, unless, packetsIn}
+use Rattle.rules.specs.Numbers.{Outcome, listed, unless, packetsIn}
 use Rattle.rules.specs.Reading.{lead, carried, frontBytes, carriersFit, packRow, inOrder}
+use Rattle.danc.specs.Code.{codeOf}
 
 -- ---- packs in a run of bytes
 
@@ -86,11 +87,6 @@ pub record PacketOpened (before after : List ℕ) (at total to r : ℕ) : Type 0
 
 -- ---- all of them
 
--- packets and string bytes, or a refusal, as one number
-abbrev pub codeOf : Outcome → ℕ
-codeOf (listed ps) = length ps + 1024 * stringBytes ps
-codeOf (refused n i) = 1073741824 + 1024 * n + i
-
 -- the string of the packets, with some values of the bits that a reader disregards, stands in front
 pub record StringOf (y : System) (ps : List Packet) (us : List ℕ) : Type 0 where
   pub items : List Item
@@ -100,7 +96,7 @@ pub record StringOf (y : System) (ps : List Packet) (us : List ℕ) : Type 0 whe
 
 -- what opening gives back, and what it leaves in the bytes. (Behind the string, and after a refusal, anything may stand.)
 pub record Opens (y : System) (o : Outcome) (r : ℕ) (after : List ℕ) : Type 0 where
-  pub answer : r ≡ codeOf o
+  pub answer : r ≡ codeOf 0 0 o
   pub string : (ps : List Packet) → o ≡ listed ps → StringOf y ps after
 
 -- packet by packet 5, 14, 15, 16

@@ -1,5 +1,8 @@
 // Packing 1 read: packs of 5 opened to a string, in place (001, 4.1.1, figures 4 and 7; document 01, "Numbers given back", 13 to 16). Where the
 // user bytes lie in an area is no concern of theirs. Quotations are from document 01.
+use danc::BASE;
+use danc::refusal;
+use frame::LIMIT;
 use frame::Line;
 use frame::wide;
 ghost use mathlib.Core.Path.{_≡_};
@@ -23,22 +26,8 @@ ghost use Rattle.unpacking1.specs.Open.{
   packetsOfFives,
 };
 
-// "P is at most 512."
-const LIMIT: usize = 512;
-
-// Past every number that stands for packets and bytes.
-const REFUSED: usize = 1073741824;
-
-// A refusal and its packet as one number.
-fn refusal(number: u64, packet: usize) -> usize
-    requires { ⌜ (number ≤ 16) × (packet ≤ 512) ⌝ }
-    ensures { λ r. ⌜ r ≡ 1073741824 + 1024 * number + packet ⌝ }
-{
-    REFUSED + 1024 * (number as usize) + packet
-}
-
-// Where the carriers end that stand from `at` on, if any do. Behind a carrier a carrier, a starter and fill may stand: a run of them needs no
-// more than this loop.
+// Where the carriers end that stand from `at` on, if any do. Behind a carrier a carrier, a starter and fill may stand: a run of them
+// needs no more than this loop.
 fn carriers_end(us: &[u8; 9360], at: usize, total: usize) -> usize
     requires { ⌜ (at ≤ total) × (total ≤ 9360) × ((total - at) % 5 ≡ 0) × (length (now us) ≡ 9360) ⌝ }
     ensures { λ r. ⌜ SameOrder (now (us .entry)) at total r ⌝ }
@@ -192,7 +181,7 @@ fn open_packets(last: Line, us: &mut [u8], total: usize, fill: usize) -> usize
         w = end;
         k += 1;
     }
-    k + 1024 * w
+    k + BASE * w
 }
 
 // Whether these are packs of 5, and all of them there.
@@ -206,7 +195,8 @@ fn whole(us: &[u8], total: usize) -> bool
 }
 
 // The packs of 5 in the first `total` of an area's user bytes, opened in place: the string then stands at their start.
-// 13, then packet by packet. Packets and 1,024 for each string byte, or from 1,073,741,824 on a refusal: 1,024 times its number, and its packet.
+// 13, then packet by packet. Packets and `BASE` for each string byte, or from `REFUSED` on a refusal: `BASE` times its number, and its
+// packet.
 pub fn open_fives(last: Line, us: &mut [u8; 9360], total: usize) -> usize
     ensures { λ r. ⌜ ((y : System) → y .last ≡ last .0 → Opens y (packetsOfFives y (now (us .entry)) total) r (now (us .exit))) ⌝ }
 {

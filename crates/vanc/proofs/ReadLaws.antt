@@ -1,6 +1,6 @@
 -- What each way through the code of reading says of the rules, over plain values.
 --
--- In order: 17; rows of packets; the number of an outcome; packs of 5; long packs; the first user byte; the area.
+-- In order: 17; the number of an outcome; packs of 5; long packs; the first user byte; the area.
 -- Assumes nothing.
 use Prim.Native.Nat.{ℕ, zero, suc, _+_, _-_, _/_, _%_, _≤_, _<_}
 use mathlib.Core.Path.{_≡_, refl, sym, ap, _∙_}
@@ -20,7 +20,7 @@ use Rattle.rules.specs.Sheet.{limit, sheetOf}
 use Rattle.rules.specs.Blocks.{width, runs, blockSizes, areaSize, userBytesIn}
 use Rattle.rules.specs.Packing1.{fives}
 use Rattle.rules.specs.Packing2.{Opened}
-use Rattle.rules.specs.Numbers.{Outcome, listed, refused, unless, also, Row, packetsIn}
+use Rattle.rules.specs.Numbers.{Outcome, listed, refused, unless, packetsIn}
 use Rattle.rules.specs.Reading.{stringRow, packRow, inOrder, firstByte, packetsOfOpened, packetsOfUserBytes, packingFound, reading, readBackOf, read, bufferAfter}
 use Rattle.rules.specs.Demands.{Reads}
 use Rattle.rules.specs.declared.ReadBack.{ReadBack}
@@ -28,16 +28,19 @@ use Rattle.rules.proofs.Basics.{never, take-bytes}
 use Rattle.rules.proofs.Sheets.{sheet-length}
 use Rattle.rules.proofs.Long.{long-bytes}
 use Rattle.rules.proofs.Strings.{StringOf, string-laid, string-room}
+use Rattle.rules.proofs.Rows.{row-few, row-place}
 use Rattle.rules.proofs.Blocks.{gather-length, facts-of, known-low}
 use Rattle.rules.proofs.Reading.{reads}
 use Rattle.frame.specs.Bytes.{collected, bytesAfter}
 use Rattle.frame.specs.Systems.{figuresOf}
 use Rattle.frame.specs.declared.Figures.{Figures}
-use Rattle.frame.proofs.Laws.{each-system, unknown-figures, known-figures}
+use Rattle.frame.proofs.Laws.{each-system, area-is, is-unknown, is-known}
 use Rattle.sheet.specs.Write.{shownRow, shown, wrote, sheetAfter}
 use Rattle.sheet.proofs.WriteLaws.{shown-string}
-use Rattle.danc.specs.Validated.{codeOf as validCode, validated, Within}
-use Rattle.unpacking1.specs.Open.{codeOf, Opens, packetsOfFives}
+use Rattle.danc.specs.Code.{base, refusedFrom, codeOf}
+use Rattle.danc.specs.Validated.{validated, Within}
+use Rattle.danc.proofs.Codes.{limit-below, refused-parts, refused-above, listed-parts, listed-below}
+use Rattle.unpacking1.specs.Open.{Opens, packetsOfFives}
 use Rattle.packing2.specs.Unlong.{openedFrom}
 use Rattle.packing2.proofs.UnlongLaws.{Answer, answer-none, answer-some}
 use Rattle.vanc.specs.Read.{Back, Coded}
@@ -88,106 +91,54 @@ pub back-of : {sys k j : ℕ} {sheet : List ℕ} {o q : Outcome} {r : ReadBack} 
     → Back sys j sheet q r after
 back-of e f w = record { answer = w .answer ∙ rw (e, f); buffer = w .buffer ∙ rw f }
 
--- ---- rows of packets
-
-module _ {A : Type 0} (row : Row A) where
-  -- no more packets than there may be
-  row-few : (left i : ℕ) (s : List A) (ps : List Packet) → packetsIn row left i s ≡ listed ps → length ps ≤ left
-  row-few zero i s ps e = go (row .ends s) e
-    where
-      go : (d : Bool) → cond d (listed []) (refused 5 i) ≡ listed ps → length ps ≤ 0
-      go true e = let z : [] ≡ ps = cc in let l : 0 ≡ length ps = ap length z in omega arith
-      go false e = never (cc)
-  row-few (suc left) i s ps e = go (row .ends s) (eqb (row .fault s) 0) (packetsIn row left (suc i) (row .rest s)) (row-few left (suc i) (row .rest s)) e
-    where
-      none : [] ≡ ps → length ps ≤ suc left
-      none z = let l : 0 ≡ length ps = ap length z in omega arith
-
-      go : (d f : Bool) (o : Outcome) → ((qs : List Packet) → o ≡ listed qs → length qs ≤ left)
-          → cond d (listed []) (cond f (also (row .packet s) o) (refused (row .fault s) i)) ≡ listed ps → length ps ≤ suc left
-      go true f o later e = none (cc)
-      go false true (refused n j) later e = never (cc)
-      go false true (listed qs) later e =
-          let z : row .packet s ∷ qs ≡ ps = cc in
-          let l : suc (length qs) ≡ length ps = ap length z in
-          let k = later qs refl in
-          omega arith
-      go false false o later e = never (cc)
-
-  -- nor a refusal past them
-  row-place : (left i : ℕ) (s : List A) (n k : ℕ) → packetsIn row left i s ≡ refused n k → k ≤ i + left
-  row-place zero i s n k e = go (row .ends s) e
-    where
-      go : (d : Bool) → cond d (listed []) (refused 5 i) ≡ refused n k → k ≤ i + 0
-      go true e = never (cc)
-      go false e = let z : i ≡ k = cc in omega arith
-  row-place (suc left) i s n k e = go (row .ends s) (eqb (row .fault s) 0) (packetsIn row left (suc i) (row .rest s)) (row-place left (suc i) (row .rest s)) e
-    where
-      go : (d f : Bool) (o : Outcome) → ((m j : ℕ) → o ≡ refused m j → j ≤ suc i + left)
-          → cond d (listed []) (cond f (also (row .packet s) o) (refused (row .fault s) i)) ≡ refused n k → k ≤ i + suc left
-      go true f o later e = never (cc)
-      go false true (refused m j) later e = let l = later n k e in omega arith
-      go false true (listed qs) later e = never (cc)
-      go false false o later e = let z : i ≡ k = cc in omega arith
-
 -- ---- the number of an outcome
 
 module _ (code : ℕ) (us : List ℕ) where
-  pub code-refused : length us ≡ 9360 → (o : Outcome) → Coded o code us → 1073741824 ≤ code → o ≡ refused ((code - 1073741824) / 1024) ((code - 1073741824) % 1024)
+  pub code-refused : length us ≡ 9360 → (o : Outcome) → Coded o code us → refusedFrom ≤ code
+      → o ≡ refused ((code - refusedFrom) / base) ((code - refusedFrom) % base)
   code-refused long (listed ps) w h =
-      let a = w .answer in
-      let f = w .few ps refl in
       let s = w .short ps refl in
+      let l = listed-below code ps (w .answer) (w .few ps refl) (omega arith) in
       absurd (omega arith)
-  code-refused long (refused n i) w h =
-      let a = w .answer in
-      let p = w .place n i refl in
-      let x : (code - 1073741824) / 1024 ≡ n = omega arith in
-      let y : (code - 1073741824) % 1024 ≡ i = omega arith in
-      rw (x, y)
+  code-refused long (refused n i) w h = let p = refused-parts code n i (w .answer) (w .place n i refl) in rw (p .0, p .1)
 
-  code-listed : (o : Outcome) → Coded o code us → code < 1073741824
-      → (ps : List Packet) × (o ≡ listed ps) × (code % 1024 ≡ length ps) × (shown (take (code / 1024) us) ≡ listed ps)
-  code-listed (refused n i) w h = let a = w .answer in absurd (omega arith)
+  code-listed : (o : Outcome) → Coded o code us → code < refusedFrom
+      → (ps : List Packet) × (o ≡ listed ps) × (code % base ≡ length ps) × (shown (take (code / base) us) ≡ listed ps)
+  code-listed (refused n i) w h = let a = refused-above code n i (w .answer) in absurd (omega arith)
   code-listed (listed ps) w h =
-      let a = w .answer in
-      let f = w .few ps refl in
-      let x : code / 1024 ≡ stringBytes ps = omega arith in
-      (ps, refl, omega arith, rw x (w .string ps refl))
+      let p = listed-parts code ps (w .answer) (w .few ps refl) in
+      (ps, refl, p .1, rw (p .0) (w .string ps refl))
 
 -- a number's list
-pub back-listed : (sys k : ℕ) (sheet : List ℕ) (o : Outcome) (code : ℕ) (us : List ℕ) (r : ReadBack) (after : List ℕ) → Coded o code us → code < 1073741824
-    → ((ps : List Packet) → shown (take (code / 1024) us) ≡ listed ps → code % 1024 ≡ length ps → Back sys k sheet (listed ps) r after)
+pub back-listed : (sys k : ℕ) (sheet : List ℕ) (o : Outcome) (code : ℕ) (us : List ℕ) (r : ReadBack) (after : List ℕ)
+    → Coded o code us → code < refusedFrom
+    → ((ps : List Packet) → shown (take (code / base) us) ≡ listed ps → code % base ≡ length ps → Back sys k sheet (listed ps) r after)
     → Back sys k sheet o r after
 back-listed sys k sheet o code us r after w h made = let v = code-listed code us o w h in back-of refl (v .1) (made (v .0) (v .3) (v .2))
 
 -- ---- packs of 5
 
-limit-is : limit ≡ 512
-unfolding limit
-limit-is = refl
-
 module _ (y : System) (us : List ℕ) (total : ℕ) where
   abbrev row5 : Outcome
   row5 = packetsIn (packRow y) limit 0 (fives (take total us))
 
-  fives-place : (n i : ℕ) → packetsOfFives y us total ≡ refused n i → i < 1024
+  fives-place : (n i : ℕ) → packetsOfFives y us total ≡ refused n i → i < base
   unfolding packetsOfFives
   fives-place n i e = go (leb total (length us) && eqb (total % 5) 0) (inOrder false (fives (take total us))) e
     where
-      go : (a b : Bool) → unless 13 a (unless 13 b row5) ≡ refused n i → i < 1024
+      go : (a b : Bool) → unless 13 a (unless 13 b row5) ≡ refused n i → i < base
       go false b e = let z : 0 ≡ i = cc in omega arith
       go true false e = let z : 0 ≡ i = cc in omega arith
-      go true true e = let l = row-place (packRow y) limit 0 (fives (take total us)) n i e in let m = limit-is in omega arith
+      go true true e = let l = row-place (packRow y) limit 0 (fives (take total us)) n i e in let m = limit-below in omega arith
 
-  fives-few : (ps : List Packet) → packetsOfFives y us total ≡ listed ps → length ps < 1024
+  fives-few : (ps : List Packet) → packetsOfFives y us total ≡ listed ps → length ps < base
   unfolding packetsOfFives
   fives-few ps e = go (leb total (length us) && eqb (total % 5) 0) (inOrder false (fives (take total us))) e
     where
-      go : (a b : Bool) → unless 13 a (unless 13 b row5) ≡ listed ps → length ps < 1024
+      go : (a b : Bool) → unless 13 a (unless 13 b row5) ≡ listed ps → length ps < base
       go false b e = never (cc)
       go true false e = never (cc)
-      go true true e = let l = row-few (packRow y) limit 0 (fives (take total us)) ps e in let m = limit-is in omega arith
+      go true true e = let l = row-few (packRow y) limit 0 (fives (take total us)) ps e in let m = limit-below in omega arith
 
   -- what opening leaves
   pub fives-coded : y .last < 2047 → (code : ℕ) (after : List ℕ) → Opens y (packetsOfFives y us total) code after
@@ -208,11 +159,6 @@ module _ (y : System) (us : List ℕ) (total : ℕ) where
       }
 
 -- ---- long packs
-
--- a string's number, taken from its front, is the outcome's
-valid-code : (o : Outcome) → validCode 0 0 o ≡ codeOf o
-valid-code (listed ps) = omega arith
-valid-code (refused n i) = refl
 
 module _ (y : System) (hm : y .last < 2047) (us : List ℕ) (len room code : ℕ) (b : Bytes (take len us))
     (v : code ≡ validated y room (take len us) 0 0) where
@@ -243,9 +189,9 @@ module _ (y : System) (hm : y .last < 2047) (us : List ℕ) (len room code : ℕ
   unfolding validated
   long-coded =
       record {
-        answer = v ∙ ap (λ (n : ℕ). validCode 0 0 (packetsIn (stringRow y room) n 0 (take len us))) (sub-zero limit) ∙ valid-code walked;
-        place = λ n i e. let l = row-place (stringRow y room) limit 0 (take len us) n i e in let m = limit-is in omega arith;
-        few = λ ps e. let l = row-few (stringRow y room) limit 0 (take len us) ps e in let m = limit-is in omega arith;
+        answer = v ∙ ap (λ (n : ℕ). codeOf 0 0 (packetsIn (stringRow y room) n 0 (take len us))) (sub-zero limit);
+        place = λ n i e. let l = row-place (stringRow y room) limit 0 (take len us) n i e in let m = limit-below in omega arith;
+        few = λ ps e. let l = row-few (stringRow y room) limit 0 (take len us) ps e in let m = limit-below in omega arith;
         short = λ ps e. let l = laid-short ps e in let m = length-take len us in omega arith;
         string = λ ps e. ap shown (laid-front ps e) ∙ shown-string y hm (laid ps e .items) (laid ps e .good) ∙ ap listed (laid ps e .packets);
       }
@@ -361,52 +307,40 @@ none-shown = refl
 -- ---- the area
 
 module _ (sys : ℕ) (area : List ℕ) (x : Figures) (is : x ≡ figuresOf sys) where
-  sequences-is : x .sequences ≡ system sys .sequences
-  unfolding figuresOf
-  sequences-is = ap (λ (z : Figures). z .sequences) is
-
-  area-is : x .area ≡ areaSize (system sys)
-  unfolding figuresOf
-  area-is = ap (λ (z : Figures). z .area) is
-
-  pub last-is : x .«last_line» .0 ≡ system sys .last
-  unfolding figuresOf
-  last-is = ap (λ (z : Figures). z .«last_line» .0) is
-
   -- 3
   pub unknown-reads : Bytes area → (sheet : List ℕ) (r : ReadBack) → x .sequences ≡ 0 → r ≡ readBackOf 0 0 (refused 3 0) → Reads sys area sheet r sheet
   unfolding read bufferAfter reading
   unknown-reads b sheet r z q =
-      let k = unknown-figures sys (sym sequences-is ∙ z) in
+      let k = is-unknown sys x is z in
       reads sys area sheet r sheet b (q ∙ rw k) (rw k)
 
   module _ (z : x .sequences ≡ 0 → ⊥) where
-    pub is-known : known sys ≡ true
-    is-known = known-figures sys (λ e. z (sequences-is ∙ e))
+    here-known : known sys ≡ true
+    here-known = is-known sys x is z
 
     -- 4
     pub other-reads : Bytes area → (sheet : List ℕ) (r : ReadBack) → (length area ≡ x .area → ⊥) → r ≡ readBackOf 0 0 (refused 4 0)
         → Reads sys area sheet r sheet
     unfolding read bufferAfter reading
     other-reads b sheet r n q =
-        let l = ne-eqb (length area) (areaSize (system sys)) (λ e. n (e ∙ sym area-is)) in
-        reads sys area sheet r sheet b (q ∙ rw (is-known, l)) (rw (is-known, l))
+        let l = ne-eqb (length area) (areaSize (system sys)) (λ e. n (e ∙ sym (area-is sys x is))) in
+        reads sys area sheet r sheet b (q ∙ rw (here-known, l)) (rw (here-known, l))
 
     -- the area is the system's own
     module _ (own : length area ≡ x .area) (total : ℕ) (count : total ≡ collected sys area) where
       own-area : length area ≡ areaSize (system sys)
-      own-area = own ∙ area-is
+      own-area = own ∙ area-is sys x is
 
       pub own-total : total ≡ sum (blockSizes (system sys))
       unfolding collected
-      own-total = count ∙ rw (is-known, eq-eqb (length area) (areaSize (system sys)) own-area)
+      own-total = count ∙ rw (here-known, eq-eqb (length area) (areaSize (system sys)) own-area)
 
       module _ (before us : List ℕ) (out : us ≡ bytesAfter sys area before) where
         users : take total us ≡ userBytesIn (system sys) area
         unfolding bytesAfter
         users =
-            let l = gather-length (areaSize (system sys)) (runs (system sys)) area (facts-of sys is-known .within) own-area in
-            ap (take total) (out ∙ rw (is-known, eq-eqb (length area) (areaSize (system sys)) own-area))
+            let l = gather-length (areaSize (system sys)) (runs (system sys)) area (facts-of sys here-known .within) own-area in
+            ap (take total) (out ∙ rw (here-known, eq-eqb (length area) (areaSize (system sys)) own-area))
             ∙ take-at (userBytesIn (system sys) area) (drop (sum (blockSizes (system sys))) before) total (l ∙ sym own-total)
 
         -- 13 and on
@@ -416,4 +350,4 @@ module _ (sys : ℕ) (area : List ℕ) (x : Figures) (is : x ≡ figuresOf sys) 
         unfolding read bufferAfter reading
         own-reads b sheet r after w =
             let e = eq-eqb (length area) (areaSize (system sys)) own-area in
-            reads sys area sheet r after b (w .answer ∙ rw (is-known, e, users)) (w .buffer ∙ rw (is-known, e, users))
+            reads sys area sheet r after b (w .answer ∙ rw (here-known, e, users)) (w .buffer ∙ rw (here-known, e, users))

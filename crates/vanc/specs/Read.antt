@@ -14,7 +14,7 @@ use Rattle.rules.specs.Numbers.{Outcome, listed, refused, unless, andThen}
 use Rattle.rules.specs.Reading.{readBackOf, bufferOf}
 use Rattle.rules.specs.declared.ReadBack.{ReadBack}
 use Rattle.sheet.specs.Write.{shown}
-use Rattle.unpacking1.specs.Open.{codeOf}
+use Rattle.danc.specs.Code.{base, codeOf}
 
 -- ---- 17, and what is given back
 
@@ -31,8 +31,8 @@ pub record Back (sys k : ℕ) (sheet : List ℕ) (o : Outcome) (r : ReadBack) (a
 
 -- the number is an outcome's, and both its parts can be taken out of it again; the string of its packets stands in front of the bytes
 pub record Coded (o : Outcome) (code : ℕ) (us : List ℕ) : Type 0 where
-  pub answer : code ≡ codeOf o
-  pub place : (n i : ℕ) → o ≡ refused n i → i < 1024
-  pub few : (ps : List Packet) → o ≡ listed ps → length ps < 1024
+  pub answer : code ≡ codeOf 0 0 o
+  pub place : (n i : ℕ) → o ≡ refused n i → i < base
+  pub few : (ps : List Packet) → o ≡ listed ps → length ps < base
   pub short : (ps : List Packet) → o ≡ listed ps → stringBytes ps ≤ length us
   pub string : (ps : List Packet) → o ≡ listed ps → shown (take (stringBytes ps) us) ≡ listed ps

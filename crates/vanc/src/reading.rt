@@ -1,4 +1,6 @@
 // Reading an area to a sheet (document 01, "Numbers given back": 3, 4, 13, then packet by packet 5, 14, 15, 16, then 17).
+use danc::BASE;
+use danc::REFUSED;
 use frame::Line;
 use rules::ReadBack;
 ghost use mathlib.Core.Path.{_≡_};
@@ -17,9 +19,6 @@ ghost use Rattle.sheet.specs.Write.{shown};
 ghost use Rattle.unpacking1.specs.Open.{packetsOfFives};
 ghost use Rattle.packing2.specs.Unlong.{openedFrom};
 ghost use Rattle.vanc.specs.Read.{Back, Coded};
-
-// From here on an answer of the packings is a refusal.
-const REFUSED: usize = 1073741824;
 
 // "On refusal the later figures are 0".
 fn refusal(number: u64, place: u64) -> ReadBack
@@ -77,10 +76,10 @@ fn decoded(system: u64, packing: u64, code: usize, us: &[u8; 9360], sheet: &mut 
     let whole = &us[..];
     if code >= REFUSED {
         let n = code - REFUSED;
-        return refusal((n / 1024) as u64, (n % 1024) as u64);
+        return refusal((n / BASE) as u64, (n % BASE) as u64);
     }
-    let end = code / 1024;
-    written(system, packing, (code % 1024) as u64, us, end, sheet)
+    let end = code / BASE;
+    written(system, packing, (code % BASE) as u64, us, end, sheet)
 }
 
 // "Or it is E1h": packs of 5 (001, 4.1.1).

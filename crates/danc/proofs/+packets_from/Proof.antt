@@ -6,7 +6,9 @@ use borrow.Author.Needs.{needs}
 use borrow.Fn.Kinds.{In}
 use borrow.Fn.PlainCycle.{Measures, is, falls, and}
 use Rattle.rules.specs.Sheet.{limit}
+use Rattle.danc.specs.Code.{base}
 use Rattle.danc.proofs.Laws.{lastOnly, run-room}
+use Rattle.danc.proofs.Codes.{refusal-code}
 use Rattle.danc.proofs.Validation.{is-small, at-end, at-limit, at-fault, at-next}
 use Rattle.danc.proofs.packets_from.Reads as packets-from
 use Rattle.danc.proofs.packets_from.Kinds as packets-from-kinds
@@ -49,40 +51,46 @@ unfolding limit
     (λ c y e.
     let b = c .before .before in
     let a = b .before .before .before .before .args in
-    c .refusal .ensures ∙ at-limit y _ (a .us .now) (a .end) (a .at) _ (sym (b .if1 .left) ∙ b .before .ends .ensures) (c .before .if2 .taken))
+    let few : a .k < base = omega (arith, b .before .before .before .before .pre .1 .1 .packet) in
+    refusal-code _ 5 _ (c .refusal .ensures) (omega arith) few
+    ∙ at-limit y _ (a .us .now) (a .end) (a .at) _ (sym (b .if1 .left) ∙ b .before .ends .ensures) (c .before .if2 .taken))
     (λ c. search needs)
     (λ c. search needs)
     (λ c. search needs)
     (λ c κs. search needs)
-    (λ c κs. (is-small _ _ _ (c .before .fault .ensures (lastOnly _) refl), omega arith))
+    (λ c κs. search needs)
     -- 14, 15, 16
     (λ c y e.
     let f = c .before .before in
     let b = f .before .before .before in
     let s = b .before .before .before .before in
     let a = s .args in
-    c .refusal2 .ensures
+    let few : a .k < base = omega (arith, s .pre .1 .1 .packet) in
+    refusal-code _ _ _ (c .refusal2 .ensures) (is-small _ _ _ (f .fault .ensures y e)) few
     ∙ at-fault y _ (a .us .now) (a .end) (a .at) _ (sym (b .if1 .left) ∙ b .before .ends .ensures) (s .pre .1 .1 .packet)
     (f .before .before .if2 .left) _ (f .fault .ensures y e) (c .before .if3 .taken))
     (λ c. search needs)
     (λ c.
     let f = c .before in
     let s = f .before .before .before .before .before .before .before in
-    let r = run-room (lastOnly _) (s .args .us .now) (s .args .end) (s .args .at) _ (f .fault .ensures (lastOnly _) refl) (c .if3 .left) in
+    let n = f .fault .ensures (lastOnly _) refl in
+    let r = run-room (lastOnly _) (s .args .us .now) (s .args .end) (s .args .at) _ n (c .if3 .left) in
     omega (arith, s .pre .1 .1 .short))
     (λ c κs. search needs)
     (λ c. search needs)
     (λ c.
     let f = c .before .before .before in
     let s = f .before .before .before .before .before .before .before in
-    let r = run-room (lastOnly _) (s .args .us .now) (s .args .end) (s .args .at) _ (f .fault .ensures (lastOnly _) refl) (c .before .before .if3 .left) in
+    let n = f .fault .ensures (lastOnly _) refl in
+    let r = run-room (lastOnly _) (s .args .us .now) (s .args .end) (s .args .at) _ n (c .before .before .if3 .left) in
     omega (arith, s .pre .1 .1 .short))
     (λ c. search needs)
     (λ c κs.
     let f = c .before .before .before in
     let s = f .before .before .before .before .before .before .before in
     let w = s .pre .1 .1 in
-    let r = run-room (lastOnly _) (s .args .us .now) (s .args .end) (s .args .at) _ (f .fault .ensures (lastOnly _) refl) (c .before .before .if3 .left) in
+    let n = f .fault .ensures (lastOnly _) refl in
+    let r = run-room (lastOnly _) (s .args .us .now) (s .args .end) (s .args .at) _ n (c .before .before .if3 .left) in
     (omega arith, (s .pre .1 .0, record { short = w .short; place = omega arith; packet = omega (arith, w .packet) })))
     -- one packet, and the string behind it
     (λ c y e.

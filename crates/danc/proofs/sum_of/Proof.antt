@@ -43,7 +43,10 @@ loop-less : tie.Need-loop-less Inv-loop μ-loop
 loop-less c = search needs
 
 loop-again : tie.Need-loop-again Inv-loop μ-loop
-loop-again c = (omega (arith, c .shared-slice-known .given (c .before .before .loop .i)), turn _ _ _ (c .before .loop-test .taken) (c .before .before .loop .inv .1))
+loop-again c =
+    let l = c .before .before .loop in
+    let b = c .shared-slice-known .given (l .i) in
+    (omega arith, turn _ _ _ (c .before .loop-test .taken) (l .inv .1))
 
 cast-result : tie.Need-cast-result Inv-loop μ-loop
 cast-result c = search needs

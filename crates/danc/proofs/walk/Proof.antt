@@ -1,8 +1,9 @@
 -- `danc::walk` meets its contract: an unknown system; the end; a refusal; a packet.
-use mathlib.Core.Path.{refl, _∙_}
+use mathlib.Core.Path.{refl, sym, _∙_}
 use native.Mathlib.Omega.{arith}
 use borrow.Author.Needs.{needs}
-use Rattle.danc.proofs.Laws.{lastOnly, part-room, last-of, step-unknown, step-end, step-fault, step-packet}
+use Rattle.frame.proofs.Laws.{last-is}
+use Rattle.danc.proofs.Laws.{lastOnly, part-room, step-unknown, step-end, step-fault, step-packet}
 use Rattle.danc.proofs.walk.Statement.{statement}
 use Rattle.danc.proofs.walk.Tie as tie
 
@@ -45,7 +46,8 @@ returns-3 c =
     let d = f .before .before .before in
     let a = d .before .before .before .before .figures-of in
     c .answer3 .ensures
-    ∙ step-fault _ _ (a .ensures) _ _ (d .before .before .if1 .left) (d .if2 .left) _ (f .fault .ensures _ (last-of _ _ (a .ensures))) (c .before .if3 .taken)
+    ∙ step-fault _ _ (a .ensures) _ _ (d .before .before .if1 .left) (d .if2 .left) _
+    (f .fault .ensures _ (sym (last-is _ _ (a .ensures)))) (c .before .if3 .taken)
 
 add-wide : tie.Need-add-wide
 add-wide c = search needs
@@ -54,7 +56,8 @@ shared-slice-read-wide : tie.Need-shared-slice-read-wide
 shared-slice-read-wide c =
     let f = c .before .before in
     let s = f .before .before .before .before .before .before .before .before .before in
-    omega (arith, part-room (lastOnly _) (s .args .string .now) (s .args .place .0) _ (f .fault .ensures (lastOnly _) refl) (c .before .if3 .left))
+    let r = part-room (lastOnly _) (s .args .string .now) (s .args .place .0) _ (f .fault .ensures (lastOnly _) refl) (c .before .if3 .left) in
+    omega arith
 
 wide-requires : tie.Need-wide-requires
 wide-requires c κs = search needs
@@ -71,7 +74,8 @@ returns-4 c =
     let d = f .before .before .before in
     let a = d .before .before .before .before .figures-of in
     c .answer4 .ensures
-    ∙ step-packet _ _ (a .ensures) _ _ (d .before .before .if1 .left) (d .if2 .left) _ (f .fault .ensures _ (last-of _ _ (a .ensures)))
+    ∙ step-packet _ _ (a .ensures) _ _ (d .before .before .if1 .left) (d .if2 .left) _
+    (f .fault .ensures _ (sym (last-is _ _ (a .ensures))))
     (c .before .before .before .if3 .left) _ (c .before .wide .ensures .0)
 
 pub walk-spec : {M : Type 1} → statement M

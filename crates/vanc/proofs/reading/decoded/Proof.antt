@@ -1,7 +1,8 @@
--- `vanc::reading::decoded` meets its contract: a number from 1,073,741,824 on is a refusal, any other packets and their string.
+-- `vanc::reading::decoded` meets its contract: a number from `refusedFrom` on is a refusal, any other packets and their string.
 -- Assumes nothing.
 use Prim.Native.Nat.{_-_, _/_, _%_}
 use borrow.Author.Needs.{needs}
+use Rattle.danc.specs.Code.{base, refusedFrom}
 use Rattle.vanc.proofs.ReadLaws.{back-refused, back-listed, code-refused}
 use Rattle.vanc.proofs.reading.decoded.Statement.{statement}
 use Rattle.vanc.proofs.reading.decoded.Tie as tie
@@ -12,10 +13,10 @@ refusal-requires c κs = search needs
 returns : tie.Need-returns
 returns c =
     let a = c .before .before .before .before .args in
-    let n = a .code - 1073741824 in
+    let n = a .code - refusedFrom in
     λ o w.
     let r = code-refused (a .code) (a .us .now) (c .before .before .whole .given .0) o w (c .before .if1 .taken) in
-    back-refused (a .system) (a .packing) (a .sheet .now) o (n / 1024) (n % 1024) (c .refusal .result) r (c .refusal .ensures)
+    back-refused (a .system) (a .packing) (a .sheet .now) o (n / base) (n % base) (c .refusal .result) r (c .refusal .ensures)
 
 written-requires : tie.Need-written-requires
 written-requires c κs = search needs

@@ -2,7 +2,8 @@
 -- Assumes nothing.
 use borrow.Author.Needs.{needs}
 use Rattle.rules.specs.Base.{Bytes}
-use Rattle.vanc.proofs.ReadLaws.{last-is, unknown-reads, is-known, other-reads, own-total, own-reads}
+use Rattle.frame.proofs.Laws.{last-is, is-known}
+use Rattle.vanc.proofs.ReadLaws.{unknown-reads, other-reads, own-total, own-reads}
 use Rattle.vanc.proofs.reading.read_with.Statement.{statement}
 use Rattle.vanc.proofs.reading.read_with.Tie as tie
 
@@ -47,9 +48,9 @@ read-users-requires c κs =
     let some = c .before .before .before .before .before .before .if1 .left in
     let own = c .before .before .before .before .if2 .left in
     let o = c .before .before .collect in (
-      is-known sys area (x .result) (x .ensures) some,
+      is-known sys (x .result) (x .ensures) some,
       own-total sys area (x .result) (x .ensures) some own (o .result) (o .ensures .0),
-      last-is sys area (x .result) (x .ensures),
+      last-is sys (x .result) (x .ensures),
     )
 
 same-length : tie.Need-same-length
