@@ -18,9 +18,10 @@ use Rattle.rules.specs.Sheet.{limit, allWords, sheetOf}
 use Rattle.rules.specs.Numbers.{Outcome, listed, refused, unless, andThen}
 use Rattle.rules.specs.Reading.{bufferOf}
 use Rattle.rules.proofs.Basics.{never, both}
+use Rattle.sheet.specs.Write.{hasRoom}
 use Rattle.mxf.specs.Element.{Padded, packetsOf}
 use Rattle.mxf.specs.Judging.{judged}
-use Rattle.mxf.specs.Reading.{hasRoom, lastTests, reading, readOf, read, sheetAfter}
+use Rattle.mxf.specs.Reading.{lastTests, reading, readOf, read, sheetAfter}
 use Rattle.mxf.specs.Demands.{Gives, Unread, Reads}
 use Rattle.mxf.specs.declared.ElementRead.{ElementRead}
 use Rattle.mxf.proofs.Inversion.{judged-number}

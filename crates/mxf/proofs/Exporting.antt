@@ -24,10 +24,11 @@ use Rattle.rules.proofs.Basics.{never}
 use Rattle.rules.proofs.Blocks.{facts-of, known-low}
 use Rattle.rules.proofs.Words.{words-room}
 use Rattle.rules.proofs.Sheets.{Sixteen, system-back, sheet-read, sheet-laid, sheet-unique, sheet-room, unless-from, list-refused}
+use Rattle.sheet.specs.Write.{hasRoom}
 use Rattle.mxf.specs.Element.{Padded, bare, packetsOf, coding, structure, value, element, elementOf}
 use Rattle.mxf.specs.Served.{serves, served, fiRead, givenBack, allBack}
 use Rattle.mxf.specs.Writing.{lined, export, withRoom, writing, writtenOf, elementIn, write, elementAfter}
-use Rattle.mxf.specs.Reading.{hasRoom, readOf, read, sheetAfter}
+use Rattle.mxf.specs.Reading.{readOf, read, sheetAfter}
 use Rattle.mxf.specs.Demands.{Lined, Held, Gives, Exported, Unwritten, Writes}
 use Rattle.mxf.specs.declared.ElementWritten.{ElementWritten}
 use Rattle.mxf.proofs.Elements.{structure-length, value-length, fi-small}

@@ -24,12 +24,12 @@ use Rattle.rules.specs.Reading.{bufferOf}
 use Rattle.rules.proofs.Basics.{second-false}
 use Rattle.rules.proofs.Sheets.{sheet-length}
 use Rattle.rules.proofs.Words.{packet-words, words-room}
-use Rattle.sheet.specs.Write.{listIn, framed, wordsAfter}
+use Rattle.sheet.specs.Write.{hasRoom, listIn, framed, wordsAfter}
 use Rattle.sheet.proofs.Filling.{two-more, part-long, part-more, all-written, threeOf, backOf}
 use Rattle.sheet.proofs.Filling.{sheet-before, sheet-lent, sheet-long, sheet-filled}
 use Rattle.mxf.specs.Served.{fiRead}
 use Rattle.mxf.specs.Judging.{twoIn, fourIn, sizeIn, packetIn, structures, judged}
-use Rattle.mxf.specs.Reading.{hasRoom, lastTests, reading, readOf, read, sheetAfter}
+use Rattle.mxf.specs.Reading.{lastTests, reading, readOf, read, sheetAfter}
 use Rattle.mxf.specs.Demands.{Reads}
 use Rattle.mxf.specs.Parts.{packetsOfStructures, Judged, Sized, Answers}
 use Rattle.mxf.specs.declared.ElementRead.{ElementRead}

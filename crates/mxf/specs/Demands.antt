@@ -15,10 +15,11 @@ use Rattle.rules.specs.Sheet.{limit, sheetOf}
 use Rattle.rules.specs.Numbers.{listed}
 use Rattle.rules.specs.Reading.{bufferOf}
 use Rattle.rules.specs.Demands.{SheetOf}
+use Rattle.sheet.specs.Write.{hasRoom}
 use Rattle.mxf.specs.Element.{Padded, packetsOf, value, element, elementOf}
 use Rattle.mxf.specs.Served.{served, fiRead, allBack}
 use Rattle.mxf.specs.Writing.{writtenOf, elementIn, write, elementAfter}
-use Rattle.mxf.specs.Reading.{hasRoom, readOf, read, sheetAfter}
+use Rattle.mxf.specs.Reading.{readOf, read, sheetAfter}
 use Rattle.mxf.specs.declared.ElementWritten.{ElementWritten}
 use Rattle.mxf.specs.declared.ElementRead.{ElementRead}
 

@@ -4,23 +4,20 @@
 -- In order: the tests; the answer.
 -- Assumes nothing.
 use Prim.Native.Nat.{ℕ}
-use mathlib.Core.Bool.{Bool, cond, _&&_}
+use mathlib.Core.Bool.{Bool, cond}
 use mathlib.Core.List.{List}
 use lib.Dec.{leb}
 use lib.ListN.{length}
 use Rattle.rules.specs.Systems.{known}
 use Rattle.rules.specs.Packet.{Packet}
-use Rattle.rules.specs.Sheet.{limit, allWords, sheetOf}
+use Rattle.rules.specs.Sheet.{limit, sheetOf}
 use Rattle.rules.specs.Numbers.{Outcome, listed, refused, unless, andThen}
 use Rattle.rules.specs.Reading.{bufferOf}
+use Rattle.sheet.specs.Write.{hasRoom}
 use Rattle.mxf.specs.Judging.{judged}
 use Rattle.mxf.specs.declared.ElementRead.{ElementRead}
 
--- 17: the sheet is longer than its buffer, or its W is no 16-bit number
-abbrev pub hasRoom : ℕ → ℕ → List Packet → Bool
-hasRoom sys room ps = leb (length (allWords ps)) 65535 && leb (length (sheetOf sys ps)) room
-
--- 5 at the limit's place, then 17
+-- 5 at the limit's place, then 17, "W over 65,535 too"
 abbrev pub lastTests : ℕ → ℕ → List Packet → Outcome
 lastTests sys room ps = cond (leb (length ps) limit) (unless 17 (hasRoom sys room ps) (listed ps)) (refused 5 limit)
 

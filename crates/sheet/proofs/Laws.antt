@@ -271,13 +271,13 @@ paired s ps = unless 11 (eqb (length ps) (countIn s)) (listed (located (location
 
 -- a sheet's count, as the code has it
 module _ (sys : ℕ) (y : System) (s : List ℕ) (p : ℕ) (is : p ≡ countIn s) where
-  -- "P over 512"
-  pub too-many : 512 < p → testedOf 0 (refused 5 0) ≡ testedOf sys (listTests y s)
-  unfolding listTests limit
-  too-many h = rw (lt-leb (countIn s) 512 (omega arith))
+  -- "laying: P over 512"
+  pub too-many : limit < p → testedOf 0 (refused 5 0) ≡ testedOf sys (listTests y s)
+  unfolding listTests
+  too-many h = rw (lt-leb (countIn s) limit (omega arith))
 
   -- what the code lends as locations, and how many of them it found to stand
-  module _ (sh : shaped s ≡ true) (few : p ≤ 512) (k : ℕ) (st : k ≡ standingIn y (take (3 + 2 * p - 3) (drop 3 s))) where
+  module _ (sh : shaped s ≡ true) (few : p ≤ limit) (k : ℕ) (st : k ≡ standingIn y (take (3 + 2 * p - 3) (drop 3 s))) where
     pairs : length (locationsIn s) ≡ 2 * p
     pairs =
         let l = length-drop 3 s in
@@ -288,10 +288,10 @@ module _ (sys : ℕ) (y : System) (s : List ℕ) (p : ℕ) (is : p ≡ countIn s
     count-is = let e : 3 + 2 * p - 3 ≡ 2 * countIn s = omega arith in st ∙ ap (λ (n : ℕ). standingIn y (take n (drop 3 s))) e
 
     from-six : listTests y s ≡ cond (eqb k p) (andThen (packetsOfWords (wordsIn s)) (paired s)) (refused 6 k)
-    unfolding listTests limit
+    unfolding listTests
     from-six =
         rw (
-          le-leb (countIn s) 512 (omega arith),
+          le-leb (countIn s) limit (omega arith),
           stand-count y 0 p (locationsIn s) _ pairs,
           zero-add (standingIn y (locationsIn s)),
           ← count-is,

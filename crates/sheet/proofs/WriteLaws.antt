@@ -8,10 +8,10 @@ use mathlib.Core.Path.{_≡_, refl, sym, ap, _∙_, subst}
 use mathlib.Core.Bool.{Bool, true, false, cond, _||_}
 use mathlib.Core.List.{List, [], _∷_, _++_, append-nil}
 use native.Mathlib.Omega.{arith}
-use lib.Dec.{eqb, ltb}
+use lib.Dec.{eqb, ltb, leb}
 use lib.ListN.{length, getD, take, drop, length-append, length-drop, drop-of-length-le}
 use lib.Seq.{length-take-le, getD-take, getD-drop, drop-drop}
-use borrow.Author.Tests.{ltb-false, lt-ltb, le-ltb}
+use borrow.Author.Tests.{ltb-false, lt-ltb, le-ltb, le-leb}
 use Rattle.rules.specs.Base.{All}
 use Rattle.rules.specs.Systems.{System}
 use Rattle.rules.specs.Packet.{Packet, words}
@@ -244,6 +244,13 @@ long-within (suc n) s h w = long-more s w (λ l v. long-within n (drop (sizeIn s
 
 pub whole-long : (s : List ℕ) → Whole s → Long s
 whole-long s w = long-within (length s) s (omega arith) w
+
+-- the W of the packets that a short string shows is a 16-bit number
+pub words-short : (s : List ℕ) (ps : List Packet) → shown s ≡ listed ps → length s ≤ 9360 → leb (length (allWords ps)) 65535 ≡ true
+words-short s ps e short =
+    let w = whole-long s (e ∙ ap (λ (o : Outcome). listed (listIn o)) (sym e)) .same in
+    let l : length (allWords (packetsShown s)) ≡ length (allWords ps) = ap (λ (o : Outcome). length (allWords (listIn o))) e in
+    le-leb (length (allWords ps)) 65535 (omega arith)
 
 -- ---- from one packet to the next
 

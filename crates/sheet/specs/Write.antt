@@ -5,12 +5,12 @@
 -- Assumes nothing.
 use Prim.Native.Nat.{ℕ, _+_, _*_, _<_}
 use mathlib.Core.Path.{_≡_}
-use mathlib.Core.Bool.{Bool, true, false, cond, _||_}
+use mathlib.Core.Bool.{Bool, true, false, cond, _&&_, _||_}
 use mathlib.Core.List.{List, [], _∷_, _++_, map}
 use lib.Dec.{eqb, ltb, leb}
 use lib.ListN.{length, getD, drop}
 use Rattle.rules.specs.Packet.{Packet, word, check}
-use Rattle.rules.specs.Sheet.{sheetOf}
+use Rattle.rules.specs.Sheet.{allWords, sheetOf}
 use Rattle.rules.specs.Numbers.{Outcome, listed, refused, Row, packetsIn}
 use Rattle.rules.specs.Reading.{packetOfBytes}
 
@@ -39,9 +39,9 @@ shown s = packetsIn shownRow (length s) 0 s
 
 -- ---- the numbers written
 
--- the sheet is not longer than its buffer
+-- "16-bit numbers": W is one of them, and the sheet is not longer than its buffer
 abbrev pub hasRoom : ℕ → ℕ → List Packet → Bool
-hasRoom sys room ps = leb (length (sheetOf sys ps)) room
+hasRoom sys room ps = leb (length (allWords ps)) 65535 && leb (length (sheetOf sys ps)) room
 
 -- the numbers of the sheet of a list, into a buffer of `room` numbers
 abbrev pub wroteOf : ℕ → ℕ → Outcome → ℕ

@@ -18,9 +18,6 @@ use rules::Tested;
 pub use write::write_sheet;
 pub use write::write_words;
 
-// "P is at most 512."
-const LIMIT: usize = 512;
-
 // A number of the sheet as a place, so that no caller has to show that the cast keeps it.
 pub fn wide(x: u16) -> usize
     ensures { λ r. ⌜ (r ≡ x) × (r < 65536) ⌝ }
@@ -108,7 +105,7 @@ fn list_tests(system: u64, last: Line, s: &[u16]) -> Tested
     ensures { λ r. ⌜ ((y : System) → y .last ≡ last .0 → r ≡ testedOf system (listTests y (now (s .entry)))) ⌝ }
 {
     let p = wide(s[2]);
-    if p > LIMIT {
+    if p > frame::LIMIT {
         return refusal(5, 0);
     }
     let end = 3 + 2 * p;

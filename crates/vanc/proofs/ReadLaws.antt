@@ -36,7 +36,7 @@ use Rattle.frame.specs.Systems.{figuresOf}
 use Rattle.frame.specs.declared.Figures.{Figures}
 use Rattle.frame.proofs.Laws.{each-system, area-is, is-unknown, is-known}
 use Rattle.sheet.specs.Write.{shownRow, shown, wrote, sheetAfter}
-use Rattle.sheet.proofs.WriteLaws.{shown-string}
+use Rattle.sheet.proofs.WriteLaws.{shown-string, words-short}
 use Rattle.danc.specs.Code.{base, refusedFrom, codeOf}
 use Rattle.danc.specs.Validated.{validated, Within}
 use Rattle.danc.proofs.Codes.{limit-below, refused-parts, refused-above, listed-parts, listed-below}
@@ -47,7 +47,7 @@ use Rattle.vanc.specs.Read.{Back, Coded}
 
 -- ---- 17
 
-module _ (sys k : ℕ) (ps : List Packet) (s sheet after : List ℕ) (n : ℕ) (e : shown s ≡ listed ps)
+module _ (sys k : ℕ) (ps : List Packet) (s sheet after : List ℕ) (n : ℕ) (e : shown s ≡ listed ps) (short : length s ≤ 9360)
     (w : n ≡ wrote sys s (length sheet)) (a : after ≡ sheetAfter sys s sheet) where
   abbrev roomy : Bool
   roomy = leb (length (sheetOf sys ps)) (length sheet)
@@ -57,11 +57,11 @@ module _ (sys k : ℕ) (ps : List Packet) (s sheet after : List ℕ) (n : ℕ) (
 
   number-is : n ≡ cond roomy (length (sheetOf sys ps)) 0
   unfolding wrote
-  number-is = w ∙ rw e
+  number-is = w ∙ rw (e, words-short s ps e short)
 
   after-is : after ≡ cond roomy whole sheet
   unfolding sheetAfter
-  after-is = a ∙ rw e
+  after-is = a ∙ rw (e, words-short s ps e short)
 
   -- nothing is written: every sheet has numbers, so there is no room for it
   pub no-room : n ≡ 0 → (r : ReadBack) → r ≡ readBackOf 0 0 (refused 17 0) → Back sys k sheet (listed ps) r after

@@ -54,6 +54,8 @@ fn written(
     ensures { λ r. ⌜ ((ps : List Packet) → shown (take end (now (us .entry))) ≡ listed ps → packets ≡ length ps
         → Back system packing (now (sheet .entry)) (listed ps) r (now (sheet .exit))) ⌝ }
 {
+    // lent whole, which tells the proof its length
+    let whole = &us[..];
     let numbers = sheet::write_sheet(narrow(system), us, end, sheet);
     if numbers == 0 {
         return refusal(17, 0);

@@ -6,6 +6,7 @@ use mathlib.Core.List.{List}
 use native.Mathlib.Omega.{arith}
 use lib.ListN.{length}
 use borrow.Author.Needs.{needs}
+use Rattle.rules.specs.Sheet.{limit}
 use Rattle.sheet.proofs.Laws.{shaped-long, too-many, out-of-range, packet-refused, differ, whole}
 use Rattle.sheet.proofs.list_tests.Statement.{statement}
 use Rattle.sheet.proofs.list_tests.Tie as tie
@@ -27,6 +28,7 @@ refusal-requires : tie.Need-refusal-requires
 refusal-requires c κs = search needs
 
 returns : tie.Need-returns
+unfolding limit
 returns c =
     let b : tie.After-wide = c .before .before in
     let s : List ℕ = b .before .before .before .args .s .now in
@@ -54,6 +56,7 @@ refusal-requires-2 : tie.Need-refusal-requires-2
 refusal-requires-2 c κs = search needs
 
 returns-2 : tie.Need-returns-2
+unfolding limit
 returns-2 c =
     let b : tie.Else1 = c .before .before .before .before in
     let s : List ℕ = b .before .before .before .before .args .s .now in
@@ -84,6 +87,7 @@ refusal-requires-3 : tie.Need-refusal-requires-3
 refusal-requires-3 c κs = search needs
 
 returns-3 : tie.Need-returns-3
+unfolding limit
 returns-3 c =
     let n : tie.Else2 = c .before .before .before .before .before .before .before in
     let b : tie.Else1 = n .before .before .before in
@@ -97,6 +101,7 @@ returns-3 c =
     (c .before .before .before .if3 .taken) (c .before .if4 .taken)
 
 returns-4 : tie.Need-returns-4
+unfolding limit
 returns-4 c =
     let n : tie.Else2 = c .before .before .before .before in
     let b : tie.Else1 = n .before .before .before in

@@ -4,10 +4,11 @@
 -- Assumes nothing.
 use Prim.Native.Nat.{ℕ, zero, suc, _+_, _-_, _*_, _≤_, _<_}
 use mathlib.Core.Path.{_≡_, refl, sym, ap, ap₂, _∙_}
-use mathlib.Core.Bool.{false}
+use mathlib.Core.Bool.{true, false}
 use mathlib.Core.List.{List, [], _∷_, _++_, map}
 use native.Mathlib.Omega.{arith}
 use native.Mathlib.Numerals.{add-one, add-three, add-seven}
+use lib.Dec.{leb}
 use lib.ListN.{length, getD, take, drop, set, length-drop, length-set, length-map, take-append-drop}
 use lib.Seq.{length-take-le, getD-take, getD-drop, drop-cons, drop-drop, take-at, drop-at, take-all, take-take}
 use borrow.Author.Tests.{lt-leb, le-leb, eq-eqb, ne-eqb}
@@ -15,13 +16,14 @@ use Rattle.rules.specs.Packet.{Packet, body, word, check, coded, checkOf, words
 use Rattle.rules.specs.Sheet.{locations, allWords, sheetOf}
 use Rattle.rules.specs.Numbers.{Outcome, listed, refused}
 use Rattle.rules.specs.Reading.{lineOf, flagsOf, packetOfBytes}
+use Rattle.rules.proofs.Basics.{second-false}
 use Rattle.rules.proofs.Words.{words-room}
 use Rattle.rules.proofs.Sheets.{sheet-length}
 use Rattle.sheet.specs.Write.{sizeIn, shown, hasRoom, wroteOf, wrote, afterOf, sheetAfter, framed, wordsAfter, listIn, packetsShown, Whole}
 use Rattle.sheet.specs.Write.{Measured, countFrom}
 use Rattle.sheet.proofs.Filling.{one-more, two-more, part-long, part-behind, part-more, all-written, threeOf, backOf, three-tail, back-set}
 use Rattle.sheet.proofs.Filling.{sheet-before, sheet-lent, sheet-long, sheet-filled}
-use Rattle.sheet.proofs.WriteLaws.{size-at, words-long, whole-long, pass, passed-all}
+use Rattle.sheet.proofs.WriteLaws.{size-at, words-long, whole-long, words-short, pass, passed-all}
 
 -- ---- bytes as words
 
@@ -309,7 +311,8 @@ module _ (sys : ℕ) (s buffer : List ℕ) where
   nothing (listed ps) e h = rw (e, h ps refl) (refl, refl)
 
   -- where the bytes are whole packets, and their sheet has n numbers
-  module _ (packets n : ℕ) (w : Whole s) (c : packets ≡ length (packetsShown s)) (m : n ≡ 4 + 2 * packets + length s) where
+  module _ (packets n : ℕ) (w : Whole s) (c : packets ≡ length (packetsShown s)) (m : n ≡ 4 + 2 * packets + length s)
+      (short : length s ≤ 9360) where
     numbers : length (sheetOf sys (packetsShown s)) ≡ n
     numbers =
         let a = sheet-length sys (packetsShown s) in
@@ -323,15 +326,15 @@ module _ (sys : ℕ) (s buffer : List ℕ) where
         full : (ps : List Packet) → shown s ≡ listed ps → hasRoom sys (length buffer) ps ≡ false
         full ps q =
             let k : length (sheetOf sys ps) ≡ n = ap (λ (o : Outcome). length (sheetOf sys (listIn o))) (sym q) ∙ numbers in
-            lt-leb (length (sheetOf sys ps)) (length buffer) (omega arith)
+            second-false (leb (length (allWords ps)) 65535) _ (lt-leb (length (sheetOf sys ps)) (length buffer) (omega arith))
 
     pub all-room : n ≤ length buffer → (ys : List ℕ) → ys ≡ sheetOf sys (packetsShown s) → Answer n (ys ++ drop n buffer)
     unfolding wrote sheetAfter
-    all-room h ys q = go (shown s) (packetsShown s) w q numbers
+    all-room h ys q = go (shown s) (packetsShown s) w q numbers (words-short s (packetsShown s) w short)
       where
         go : (o : Outcome) (ps : List Packet) → o ≡ listed ps → ys ≡ sheetOf sys ps → length (sheetOf sys ps) ≡ n
-            → (n ≡ wroteOf sys (length buffer) o) × (ys ++ drop n buffer ≡ afterOf sys buffer o)
-        go o ps e q k = rw (e, k, le-leb n (length buffer) h) (refl, ap (λ (t : List ℕ). t ++ drop n buffer) q)
+            → leb (length (allWords ps)) 65535 ≡ true → (n ≡ wroteOf sys (length buffer) o) × (ys ++ drop n buffer ≡ afterOf sys buffer o)
+        go o ps e q k x = rw (e, x, k, le-leb n (length buffer) h) (refl, ap (λ (t : List ℕ). t ++ drop n buffer) q)
 
   -- what `measure` answers
   module _ (r : ℕ) (e : r ≡ countFrom 0 (shown s)) (few : length s ≤ 9360) where

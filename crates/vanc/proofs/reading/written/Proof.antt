@@ -1,8 +1,9 @@
 -- `vanc::reading::written` meets its contract: the sheet is written, or there is no room for it. Assumes nothing.
-use Prim.Native.Nat.{ℕ}
+use Prim.Native.Nat.{ℕ, _≤_}
 use mathlib.Core.Path.{_≡_, ap, _∙_}
 use mathlib.Core.List.{List}
-use lib.ListN.{length, take}
+use native.Mathlib.Omega.{arith}
+use lib.ListN.{length, take, length-take}
 use borrow.Author.Needs.{needs}
 use Rattle.sheet.specs.Write.{wrote, sheetAfter}
 use Rattle.vanc.proofs.ReadLaws.{no-room, all-room}
@@ -12,10 +13,17 @@ use Rattle.vanc.proofs.reading.written.Tie as tie
 -- what the writing gives back, of the system as it was given
 module _ (c : tie.After-write-sheet) where
   abbrev start : tie.Start
-  start = c .before .before .before .before
+  start = c .before .before .before .before .before
 
   abbrev string : List ℕ
   string = take (start .args .end) (start .args .us .now)
+
+  -- no longer than the array that it is the front of
+  short : length string ≤ 9360
+  short =
+      let l = c .before .before .before .whole .given .0 in
+      let m = length-take (start .args .end) (start .args .us .now) in
+      omega arith
 
   count : c .write-sheet .result ≡ wrote (start .args .system) string (length (start .args .sheet .now))
   count =
@@ -45,7 +53,7 @@ returns c =
     let a = start b .args in
     let n = b .write-sheet .result in
     λ ps e q.
-    no-room (a .system) (a .packing) ps (string b) (a .sheet .now) (b .write-sheet .last .1 .1 .1 .0) n e (count b) (after b)
+    no-room (a .system) (a .packing) ps (string b) (a .sheet .now) (b .write-sheet .last .1 .1 .1 .0) n e (short b) (count b) (after b)
     (c .before .if1 .taken) (c .refusal .result) (c .refusal .ensures)
 
 same-length-2 : tie.Need-same-length-2
@@ -57,7 +65,7 @@ returns-2 c =
     let a = start b .args in
     let n = b .write-sheet .result in
     λ ps e q.
-    all-room (a .system) (a .packing) ps (string b) (a .sheet .now) (b .write-sheet .last .1 .1 .1 .0) n e (count b) (after b)
+    all-room (a .system) (a .packing) ps (string b) (a .sheet .now) (b .write-sheet .last .1 .1 .1 .0) n e (short b) (count b) (after b)
     (c .if1 .left) (a .packets) q
 
 pub written-spec : {M : Type 1} → statement M
