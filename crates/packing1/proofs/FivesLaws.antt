@@ -22,12 +22,12 @@ use Rattle.rules.specs.Sheet.{locations, allWords, countIn, locationsIn, wordsI
 use Rattle.rules.specs.Laying.{low}
 use Rattle.rules.specs.Packing1.{Five, five, flat, carriers, carriersFor, packsOf, packs}
 use Rattle.rules.specs.Demands.{SheetOf}
-use Rattle.rules.proofs.Basics.{written-back}
 use Rattle.rules.proofs.Blocks.{facts-of}
 use Rattle.rules.proofs.Sheets.{locations-back, words-back}
 use Rattle.rules.proofs.Words.{low-word, packet-words, words-room, map-low}
 use Rattle.rules.proofs.Strings.{danc-length}
 use Rattle.rules.proofs.Packs.{flat-append, flat-length, packs-length}
+use Rattle.rules.proofs.Lister.{packs-laid-counted}
 use Rattle.danc.proofs.Laws.{header-written, rest-part}
 use Rattle.packing1.specs.Fives.{packetFives, Ends, SectionsOf, LaysFives, Heads, LaysString}
 
@@ -417,8 +417,7 @@ fives-done {ls} {ws} {us₀} {us} {k} {at} {o} long end so = record { laid = λ 
     done y ps r f =
         let s : List ℕ = flat (joined packs (map written ps)) in
         let l = flat-length (joined packs (map written ps)) in
-        let q : length (joined packs (map written ps)) ≡ sum (map packsOf ps) =
-        packs-length (map written ps) ∙ ap (λ (t : List Packet). sum (map packsOf t)) (written-back ps) in
+        let q = packs-laid-counted ps in
         let d : 0 + length s ≡ 5 * sum (map packsOf ps) = omega arith in
         ap (λ (t : List Packet). sets us o (flat (joined packs (map written t)))) (sym (left-none y ls ws k at (f .left) (f .is) end))
         ∙ f .laid
