@@ -19,9 +19,9 @@ use Rattle.rules.specs.Danc.{written, header, behind, bytesOf}
 use Rattle.rules.specs.Sheet.{allWords}
 use Rattle.rules.specs.Laying.{low}
 use Rattle.rules.specs.Packing1.{Five, five, flat, carriers, carriersFor, packsOf, packs}
-use Rattle.rules.proofs.Basics.{written-back}
 use Rattle.rules.proofs.Words.{packet-words}
 use Rattle.rules.proofs.Packs.{flat-append, flat-length, packs-length}
+use Rattle.rules.proofs.Lister.{packs-laid-counted}
 use Rattle.sections.specs.Sections.{Ends, SectionsOf}
 use Rattle.sections.proofs.Laws.{Left, left-all, left-none, Next, next-of, next-ends, next-after, low-behind, headByte0, headByte1, header-next}
 use Rattle.packing1.specs.Fives.{packetFives, LaysFives}
@@ -267,8 +267,7 @@ fives-done {ls} {ws} {us₀} {us} {k} {at} {o} long end so = record { laid = λ 
     done y ps r f =
         let s : List ℕ = flat (joined packs (map written ps)) in
         let l = flat-length (joined packs (map written ps)) in
-        let q : length (joined packs (map written ps)) ≡ sum (map packsOf ps) =
-        packs-length (map written ps) ∙ ap (λ (t : List Packet). sum (map packsOf t)) (written-back ps) in
+        let q = packs-laid-counted ps in
         let d : 0 + length s ≡ 5 * sum (map packsOf ps) = omega arith in
         ap (λ (t : List Packet). sets us o (flat (joined packs (map written t)))) (sym (left-none y ls ws k at (f .left) (f .is) end))
         ∙ f .laid

@@ -20,16 +20,12 @@ use Rattle.rules.specs.Sheet.{allWords}
 use Rattle.rules.specs.Numbers.{Outcome, listed, refused, also, packetsIn}
 use Rattle.rules.specs.Reading.{packetOfBytes}
 use Rattle.rules.proofs.Basics.{never}
-use Rattle.rules.proofs.Rows.{row-read, row-enough}
+use Rattle.rules.proofs.Rows.{Anything, row-read, row-enough}
 use Rattle.rules.proofs.Words.{packet-words}
 use Rattle.rules.proofs.Strings.{danc-length, bytes-packet, bytes-rest}
 use Rattle.sheet.specs.Write.{sizeIn, shownFault, shownRow, shown, listIn, packetsShown, Whole, countFrom}
 
 -- ---- what is laid is shown
-
--- what may follow a packet
-abbrev Anything : List ℕ → Type 0
-Anything s = Unit {0}
 
 module _ (y : System) (hm : y .last < 2047) (x : Item) (r : List ℕ) (g : Good y x) where
   goes-on : shownRow .ends (danc x ++ r) ≡ false

@@ -29,9 +29,9 @@ use Rattle.rules.specs.declared.Laid.{Laid}
 use Rattle.rules.specs.declared.Tested.{Tested}
 use Rattle.rules.proofs.Basics.{written-back}
 use Rattle.rules.proofs.Words.{words-room}
-use Rattle.rules.proofs.Strings.{string-room}
 use Rattle.rules.proofs.Blocks.{facts-of, scatter-front}
-use Rattle.rules.proofs.Packs.{flat-length, packs-length}
+use Rattle.rules.proofs.Packs.{flat-length}
+use Rattle.rules.proofs.Lister.{bytes-counted, packs-laid-counted}
 use Rattle.rules.proofs.Users.{users-length}
 use Rattle.rules.proofs.Laying.{lays-outcome, refuses-packing, refuses-shape, refuses-system, past-system, refuses-area, refuses-list, passed-list}
 use Rattle.frame.specs.Systems.{figuresOf}
@@ -99,10 +99,8 @@ bytes1 : (sizes : List ℕ) (ps : List Packet)
     → laidBytes 1 sizes ps ≡ flat (joined packs (map written ps)) ++ fill (sum sizes - 5 * sum (map packsOf ps))
 unfolding userBytes
 bytes1 sizes ps =
-    let n : sum (map packsOf (packetsOf (map written ps))) ≡ sum (map packsOf ps) =
-    ap (λ (qs : List Packet). sum (map packsOf qs)) (written-back ps) in
     let l : length (flat (joined packs (map written ps))) ≡ 5 * sum (map packsOf ps) =
-    flat-length (joined packs (map written ps)) ∙ ap (λ (m : ℕ). 5 * m) (packs-length (map written ps) ∙ n) in
+    flat-length (joined packs (map written ps)) ∙ ap (λ (m : ℕ). 5 * m) (sym (packs-laid-counted ps)) in
     ap (λ (m : ℕ). flat (joined packs (map written ps)) ++ fill (sum sizes - m)) l
 
 -- the packs over fill are the list's user bytes, and fill behind them
@@ -151,7 +149,7 @@ laid2 sys ls ws s us area after w v a = record { laid = done }
         let h = fits2 sys ps f in
         let b = small-of sys .1 in
         let l : length ws ≡ stringBytes ps = ap length (sec .sectionC) ∙ words-room ps in
-        let m : length (string (map written ps)) ≡ length ws = string-room (map written ps) ∙ ap stringBytes (written-back ps) ∙ sym l in
+        let m : length (string (map written ps)) ≡ length ws = sym (l ∙ bytes-counted ps) in
         let e : s ≡ string (map written ps) ++ fill (9000 - length ws) =
         w .laid (system sys) ps sec (omega arith)
         ∙ ap (λ (n : ℕ). string (map written ps) ++ drop n (fill 9000)) (sym l)
