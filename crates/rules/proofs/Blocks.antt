@@ -2,21 +2,21 @@
 -- fits.
 --
 -- In order: runs in an area, and runs that do not meet; reading out; one run laid; all runs laid; no second area; the facts of a
--- system.
+-- system; the laying order by number.
 -- Assumes nothing.
-use Prim.Native.Nat.{ℕ, _+_, _-_, _*_, _≤_, _<_}
+use Prim.Native.Nat.{ℕ, _+_, _-_, _*_, _/_, _%_, _≤_, _<_}
 use mathlib.Core.Path.{_≡_, refl, sym, ap, ap₂, _∙_}
 use mathlib.Core.Logic.{_⊎_, inl, inr, ⊎-elim}
 use mathlib.Core.Bool.{Bool, true, false, cond, _&&_, _||_}
-use mathlib.Core.List.{List, [], _∷_, _++_}
+use mathlib.Core.List.{List, [], _∷_, _++_, map}
 use native.Mathlib.Omega.{arith}
 use lib.Dec.{eqb, ltb, leb}
 use lib.ListN.{length, getD, take, drop, length-append, length-take, length-drop, take-append-drop, List·getD-append}
 use lib.Seq.{getD-take, getD-drop, getD-append-add, ext-getD, take-at, drop-at, length-take-le, take-append-le, drop-append-le}
 use borrow.Author.Tests.{ltb-true, ltb-false, leb-true, leb-false, eqb-true, lt-ltb, le-leb}
-use Rattle.rules.specs.Base.{sum, none, one, Bytes}
+use Rattle.rules.specs.Base.{count, sum, none, one, Bytes}
 use Rattle.rules.specs.Systems.{System, hd1080-60i, hd1080-50i, hd720-60p, known, system}
-use Rattle.rules.specs.Blocks.{Run, blockStart, shift, width, runs, sizes, blockSizes, areaSize}
+use Rattle.rules.specs.Blocks.{Run, blockStart, shift, width, userRun, runs, sizes, blockSizes, areaSize}
 use Rattle.rules.specs.Blocks.{gather, into, scatter, outside}
 use Rattle.rules.proofs.Basics.{never, both, either, take-bytes, drop-bytes, append-below}
 use Rattle.rules.proofs.Long.{Roomy}
@@ -321,3 +321,19 @@ known-low sys e = go (eqb sys 1) refl (eqb sys 2) refl (eqb sys 3) refl e
     go false p true q c r e = let z = eqb-true sys 2 q in omega arith
     go false p false q true r e = let z = eqb-true sys 3 r in omega arith
     go false p false q false r e = never (cc)
+
+-- ---- the laying order by number
+
+-- the runs of n sequences per channel by number: each twelve are a sequence, each four of them a block
+abbrev pub byNumber : ℕ → List Run
+byNumber n = map (λ (k : ℕ). userRun n (k / 12) (k / 4 % 3) (k % 4)) (count 0 (12 * n))
+
+-- with ten sequences per channel the laying order is by number
+pub run-order10 : runs hd1080-60i ≡ byNumber 10
+unfolding runs blockStart shift width
+run-order10 = refl
+
+-- with twelve it is too
+pub run-order12 : runs hd1080-50i ≡ byNumber 12
+unfolding runs blockStart shift width
+run-order12 = refl
