@@ -6,18 +6,19 @@ use Prim.Native.Nat.{ℕ, suc, _+_, _-_, _*_, _/_, _%_, _≤_, _<_}
 use mathlib.Core.Path.{_≡_, refl, sym, ap₂, _∙_}
 use mathlib.Core.Bool.{Bool, true, false, cond, not, _||_}
 use mathlib.Core.List.{List, [], _∷_, map}
-use native.Mathlib.Nat.{le-of-eq}
 use native.Mathlib.Omega.{arith}
 use lib.Dec.{eqb, ltb, leb}
 use lib.ListN.{length, getD, take, drop, length-drop, length-take}
-use lib.Seq.{length-take-le, getD-take, getD-drop, take-all}
-use borrow.Author.Tests.{ltb-false, leb-true, leb-false, eqb-true, lt-ltb, le-ltb, eq-eqb, ne-eqb, le-leb, lt-leb}
+use lib.Seq.{length-take-le, getD-take, getD-drop}
+use borrow.Author.Tests.{ltb-false, leb-true, leb-false, eqb-true, lt-ltb, le-ltb, eq-eqb, ne-eqb, lt-leb}
 use Rattle.rules.specs.Base.{sum}
 use Rattle.rules.specs.Systems.{System, system, stands}
 use Rattle.rules.specs.Packet.{Packet, parity, word, sum9, check, coded, checkOf}
 use Rattle.rules.specs.Danc.{written, header}
 use Rattle.rules.specs.Reading.{lineIn, lineOf, packetOfBytes, lineFault, bytesFault, stringFault}
 use Rattle.rules.specs.Walker.{step, walk}
+use Rattle.rules.proofs.Basics.{rest-part}
+use Rattle.rules.proofs.Walker.{step-end as ended}
 use Rattle.frame.specs.Systems.{figuresOf}
 use Rattle.frame.specs.declared.Figures.{Figures}
 use Rattle.frame.proofs.Laws.{is-unknown, is-known}
@@ -139,11 +140,7 @@ fault-room y s z = go (ltb (length s) 7) (ltb (length s) (getD s 5 0 + 7)) refl 
     go false true e z = absurd (omega arith)
     go false false e z = ltb-false (length s) (getD s 5 0 + 7) e
 
--- the rest of a slice
-pub rest-part : (n : ℕ) (s : List ℕ) → take (length s - n) (drop n s) ≡ drop n s
-rest-part n s = take-all (length s - n) (drop n s) (le-of-eq (length-drop n s))
-
--- the same of a part of a slice
+-- the same of the rest of a slice
 pub part-room : (y : System) (s : List ℕ) (at n : ℕ) → n ≡ stringFault y (take (length s - at) (drop at s)) → n ≡ 0
     → at + (getD s (at + 5) 0 + 7) ≤ length s
 part-room y s at n w z =
@@ -173,8 +170,7 @@ module _ (sys : ℕ) (f : Figures) (e : f ≡ figuresOf sys) where
 
     module _ (h : f .sequences ≡ 0 → ⊥) where
       pub step-end : length s ≤ at → step 0 at 0 ≡ walk sys s at
-      unfolding walk
-      step-end l = rw (is-known sys f e h, le-leb (length s) at l)
+      step-end l = sym (ended sys (is-known sys f e h) s at l)
 
       -- the number that the tests of the packet give
       module _ (l : at < length s) (n : ℕ) (w : n ≡ stringFault (system sys) (take (length s - at) (drop at s))) where

@@ -5,11 +5,11 @@
 use Prim.Native.Nat.{ℕ, suc, _+_, _-_, _*_, _≤_, _<_}
 use mathlib.Core.Path.{_≡_, refl, ap, _∙_}
 use mathlib.Core.List.{List, [], _∷_, _++_, append-nil}
-use native.Mathlib.Numerals.{add-one}
 use native.Mathlib.Omega.{arith}
-use lib.ListN.{length, getD, set, take, drop, replicate, length-drop, length-replicate, drop-of-length-le}
-use lib.Seq.{length-take-le, drop-cons, take-suc, append-snoc, set-at, take-all, take-take}
+use lib.ListN.{length, take, drop, replicate, length-drop, length-replicate, drop-of-length-le}
+use lib.Seq.{take-take}
 use Rattle.rules.specs.Blocks.{into}
+use Rattle.rules.proofs.Basics.{rest-part, copy-full}
 use Rattle.frame.specs.Moves.{Move, moved, four, rowsOf}
 
 -- ---- a copy, byte by byte
@@ -17,18 +17,6 @@ use Rattle.frame.specs.Moves.{Move, moved, four, rowsOf}
 -- the first i of src are copied
 abbrev pub copied : ℕ → List ℕ → List ℕ → List ℕ
 copied i src dst = take i src ++ drop i dst
-
--- a turn of the loop that copies
-pub copy-turn : (i : ℕ) (src dst cur : List ℕ) → i < length src → i < length dst → cur ≡ copied i src dst
-    → set cur i (getD src i 0) ≡ copied (i + 1) src dst
-copy-turn i src dst cur h k e =
-    let l : length (take i src) ≡ i = length-take-le i src (omega arith) in
-    let s = set-at (take i src) (getD dst i 0) (drop (suc i) dst) (getD src i 0) i l in
-    rw (e, drop-cons dst i 0 k, s, add-one, take-suc src i 0 h, append-snoc)
-
--- a copy that fills its target has nothing else in it
-pub copy-all : (n : ℕ) (src dst : List ℕ) → length dst ≤ n → copied n src dst ≡ take n src
-copy-all n src dst h = rw (drop-of-length-le dst h) (append-nil (take n src))
 
 -- the copy of n, where the loop ends
 pub copy-end : (n i : ℕ) (src dst cur : List ℕ) → i ≡ n → cur ≡ copied i src dst → cur ≡ copied n src dst
@@ -38,13 +26,9 @@ copy-end n i src dst cur h e = rw h at e
 pub copy-got : (n i : ℕ) (src cur : List ℕ) → i ≡ n → cur ≡ copied i src (replicate n 0) → cur ≡ take n src
 copy-got n i src cur h e =
     let l = length-replicate {A = ℕ} n 0 in
-    copy-end n i src (replicate n 0) cur h e ∙ copy-all n src (replicate n 0) (omega arith)
+    copy-full (replicate n 0) cur src n i e h (omega arith)
 
 -- ---- one block
-
--- a part that starts at a place and goes to the end
-part-end : (at : ℕ) (s : List ℕ) → take (length s - at) (drop at s) ≡ drop at s
-part-end at s = take-all (length s - at) (drop at s) (omega (arith, length-drop at s))
 
 -- a block's bytes, taken from a part of one list and put into a part of another
 pub move-part : (w from to : ℕ) (src dst a part : List ℕ)
@@ -54,9 +38,9 @@ pub move-part : (w from to : ℕ) (src dst a part : List ℕ)
 move-part w from to src dst a part e f =
     let k : ℕ = length dst - to in
     let n : drop k (drop to dst) ≡ [] = drop-of-length-le (drop to dst) {i = k} (omega (arith, length-drop to dst)) in
-    let x : a ≡ take w (drop from src) = rw part-end at e in
+    let x : a ≡ take w (drop from src) = rw rest-part at e in
     let t = take-take w w (drop from src) (omega arith) in
-    let y : part ≡ take w (drop from src) ++ drop w (drop to dst) = f ∙ rw (part-end to dst, x, t) in
+    let y : part ≡ take w (drop from src) ++ drop w (drop to dst) = f ∙ rw (rest-part to dst, x, t) in
     rw (n, append-nil) (ap (λ (t : List ℕ). take to dst ++ t) y)
 
 -- ---- blocks one after the other

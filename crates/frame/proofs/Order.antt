@@ -16,12 +16,12 @@ use Rattle.rules.specs.Base.{sum}
 use Rattle.rules.specs.Systems.{System, known, system}
 use Rattle.rules.specs.Blocks.{Run, blockStart, shift, width, runs, sizes, blockSizes, areaSize, gather, into, scatter}
 use Rattle.rules.proofs.Basics.{never, both, second-false}
-use Rattle.rules.proofs.Blocks.{allWithin, facts-of}
+use Rattle.rules.proofs.Blocks.{allWithin, facts-of, each-system}
 use Rattle.frame.specs.Systems.{figuresOf}
 use Rattle.frame.specs.Bytes.{fitsArea, collected, bytesAfter, areaWith}
 use Rattle.frame.specs.Moves.{Move, move, moved, four, rowOut, rowIn, rowsOut, rowsIn}
 use Rattle.frame.specs.declared.Figures.{Figures}
-use Rattle.frame.proofs.Laws.{each-system, sequences-is, area-is, is-unknown, is-known}
+use Rattle.frame.proofs.Laws.{sequences-is, area-is, is-unknown, is-known}
 
 -- ---- runs as moves
 

@@ -17,13 +17,14 @@ use Rattle.rules.specs.Packet.{Packet, Sound}
 use Rattle.rules.specs.Danc.{bytesOf, stringBytes}
 use Rattle.rules.specs.Sheet.{limit, systemIn, allWords, sheetOf}
 use Rattle.rules.specs.Numbers.{Outcome, listed, refused, unless, andThen}
-use Rattle.rules.specs.Laying.{shaped, sheetTests}
+use Rattle.rules.specs.Laying.{sheetTests}
 use Rattle.rules.specs.Reading.{bufferOf}
 use Rattle.rules.specs.Demands.{SheetOf}
 use Rattle.rules.proofs.Basics.{never}
 use Rattle.rules.proofs.Blocks.{facts-of, known-low}
 use Rattle.rules.proofs.Words.{words-room}
-use Rattle.rules.proofs.Sheets.{Sixteen, system-back, sheet-read, sheet-laid, sheet-unique, sheet-room, unless-from, list-refused}
+use Rattle.rules.proofs.Lister.{sheet-refused}
+use Rattle.rules.proofs.Sheets.{Sixteen, system-back, sheet-read, sheet-laid, sheet-unique, sheet-room}
 use Rattle.sheet.specs.Write.{hasRoom}
 use Rattle.mxf.specs.Element.{Padded, bare, packetsOf, coding, structure, value, element, elementOf}
 use Rattle.mxf.specs.Served.{serves, served, fiRead, givenBack, allBack}
@@ -125,16 +126,10 @@ module _ (fi : Bool) (s : List ℕ) (room : ℕ) where
       roomy (listed rs) e f = fitted rs (leb (length (elementOf sys rs)) room) e
       roomy (refused m j) e f = f e
 
-      tests : (m j : ℕ) → sheetTests s ≡ refused m j → 1 ≤ m
-      tests m j e =
-          unless-from 1 2 (shaped s) _ m j
-          (unless-from 1 3 (known (systemIn s)) _ m j (λ z. let h = list-refused (system (systemIn s)) s m j z in omega arith) (omega arith))
-          (omega arith) e
-
       tested : (o : Outcome) → sheetTests s ≡ o → withRoom sys room (andThen o (export sys fi)) ≡ refused n i → 1 ≤ n
       tested (listed ps) q e =
           roomy (export sys fi ps) e (λ z. lined-refused sys fi ps 0 (listed (served sys fi ps)) n i z (λ w. never (cc)))
-      tested (refused m j) q e = tests n i (q ∙ e)
+      tested (refused m j) q e = sheet-refused s n i (q ∙ e)
 
 -- ---- as it is given back
 

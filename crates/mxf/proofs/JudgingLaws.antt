@@ -18,9 +18,8 @@ use Rattle.rules.specs.Packet.{Packet}
 use Rattle.rules.specs.Danc.{bytesOf, stringBytes}
 use Rattle.rules.specs.Sheet.{sheetOf}
 use Rattle.rules.specs.Numbers.{Outcome, listed, refused, also}
-use Rattle.rules.proofs.Basics.{second-false}
+use Rattle.rules.proofs.Basics.{second-false, rest-part}
 use Rattle.rules.proofs.Sheets.{sheet-length}
-use Rattle.danc.proofs.Laws.{rest-part}
 use Rattle.mxf.specs.Element.{key, wrapping}
 use Rattle.mxf.specs.Judging.{
   twoIn,

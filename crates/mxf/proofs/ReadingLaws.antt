@@ -16,7 +16,7 @@ use lib.ListN.{length, getD, take, drop, set, length-append, length-drop, length
 use lib.Seq.{length-take-le, getD-drop, drop-cons, drop-drop, take-all}
 use borrow.Author.Tests.{eq-eqb, le-leb, lt-leb}
 use Rattle.rules.specs.Base.{Bytes}
-use Rattle.rules.specs.Systems.{known, system}
+use Rattle.rules.specs.Systems.{known}
 use Rattle.rules.specs.Packet.{Packet, body, word, check, coded, checkOf, words}
 use Rattle.rules.specs.Sheet.{limit, locations, allWords, sheetOf}
 use Rattle.rules.specs.Numbers.{Outcome, listed, refused, unless, andThen}

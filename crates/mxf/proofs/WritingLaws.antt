@@ -11,22 +11,21 @@ use native.Mathlib.Omega.{arith}
 use native.Mathlib.Numerals.{add-one}
 use lib.Dec.{eqb}
 use lib.ListN.{length, getD, take, drop, set, length-append, length-drop, length-map, drop-of-length-le, take-append-drop}
-use lib.Seq.{sets, sets-eq, length-sets, length-take-le, length-front, getD-drop, drop-cons, drop-drop, take-at, drop-at, take-all}
+use lib.Seq.{sets, sets-eq, length-sets, length-take-le, length-front, drop-cons, drop-drop, take-at, take-all}
 use borrow.Author.Tests.{le-leb, lt-leb, eq-eqb, ne-eqb}
-use Rattle.rules.specs.Base.{joined, All, one}
+use Rattle.rules.specs.Base.{joined, All}
 use Rattle.rules.specs.Systems.{System, system}
 use Rattle.rules.specs.Packet.{Packet, body, word, words, coded, checkOf, Sound}
-use Rattle.rules.specs.Danc.{bytesOf, stringBytes}
+use Rattle.rules.specs.Danc.{bytesOf}
 use Rattle.rules.specs.Sheet.{limit, allWords, systemIn, locationsIn, wordsIn}
 use Rattle.rules.specs.Numbers.{Outcome, listed, refused, andThen}
 use Rattle.rules.specs.Laying.{low, sheetTests}
 use Rattle.rules.specs.Lister.{testedOf, tested}
 use Rattle.rules.specs.Demands.{SheetOf, Tests}
 use Rattle.rules.specs.declared.Tested.{Tested}
-use Rattle.rules.proofs.Basics.{sets-front, sets-behind}
-use Rattle.rules.proofs.Words.{low-word, map-low, packet-words}
-use Rattle.rules.proofs.Sheets.{system-back, count-back, sheet-length, sheet-read}
-use Rattle.danc.proofs.Laws.{rest-part}
+use Rattle.rules.proofs.Basics.{sets-front, sets-behind, rest-part}
+use Rattle.rules.proofs.Words.{low-word, map-low}
+use Rattle.rules.proofs.Sheets.{system-back, sheet-read}
 use Rattle.sections.specs.Sections.{SectionsOf}
 use Rattle.sections.proofs.Laws.{sections-of, Left, left-all, left-none, Next, next-of}
 use Rattle.mxf.specs.Element.{two, three, four, key, wrapping, coding, bare, samples, structure, value, element, elementOf}

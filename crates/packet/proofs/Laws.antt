@@ -5,18 +5,18 @@
 use Prim.Native.Nat.{ℕ, zero, suc, _+_, _-_, _*_, _/_, _%_, _≤_, _<_}
 use mathlib.Core.Path.{_≡_, refl, ap, sym, _∙_}
 use mathlib.Core.Bool.{Bool, true, false, _&&_, and-assoc}
-use mathlib.Core.List.{List, [], _∷_, _++_, append-nil}
+use mathlib.Core.List.{List, [], _∷_, _++_}
 use native.Mathlib.Omega.{arith}
 use native.Mathlib.Nat.{add-comm, add-zero, zero-add}
 use native.Mathlib.Numerals.{add-one}
 use lib.Bits.{bitXor}
 use lib.Dec.{eqb}
 use lib.ListN.{length, getD, set, take, drop, drop-of-length-le, take-append-drop}
-use lib.Seq.{drop-cons, take-add, drop-drop, take-all, paste-suc}
+use lib.Seq.{drop-cons, take-add, drop-drop, take-all}
 use borrow.Author.Tests.{eq-eqb, ne-eqb, eqb-true}
 use Rattle.rules.specs.Packet.{parity, word, sum9, check}
 use Rattle.rules.specs.Laying.{isWord, areWords}
-use Rattle.rules.proofs.Basics.{both}
+use Rattle.rules.proofs.Basics.{both, copy-turn, copy-full}
 use Rattle.packet.specs.Run.{passOf, wordsFrom, wordTable}
 use Rattle.packet.specs.declared.Pass.{Pass}
 
@@ -65,18 +65,11 @@ table-length = refl
 pub table-turn : (z t : List ℕ) (b w : ℕ) → b < 256 → length z ≡ 256 → w ≡ word b → t ≡ take b wordTable ++ drop b z
     → set t b w ≡ take (b + 1) wordTable ++ drop (b + 1) z
 table-turn z t b w h l e v =
-    let p = paste-suc z 0 wordTable b 0 (omega arith) (omega (arith, table-length)) in
-    rw (v, e, ← table-at b h, add-one b) (rw (zero-add b, zero-add (suc b)) at p)
+    rw (e, ← table-at b h) (copy-turn z t wordTable b (omega arith) (omega (arith, table-length)) v)
 
 -- it is full
 pub table-end : (z t : List ℕ) (b : ℕ) → b ≡ 256 → length z ≡ 256 → t ≡ take b wordTable ++ drop b z → t ≡ wordTable
-table-end z t b e l v = v ∙ rw (drop-of-length-le z h, take-all b wordTable k) (append-nil wordTable)
-  where
-    h : length z ≤ b
-    h = omega arith
-
-    k : length wordTable ≤ b
-    k = omega (arith, table-length)
+table-end z t b e l v = copy-full z t wordTable 256 b v e (omega arith) ∙ take-all 256 wordTable (omega (arith, table-length))
 
 -- ---- a pass over words: what the word at i adds, and the end
 

@@ -1,6 +1,6 @@
 -- Laws for the proofs of this crate, one path of the code at a time.
 --
--- In order: runs of stores; low bytes; carriers; a packet's packs from its words; what a sound packet's words give; a loop that lays packs.
+-- In order: low bytes; carriers; a packet's packs from its words; what a sound packet's words give; a loop that lays packs.
 -- Assumes nothing.
 use Prim.Native.Nat.{ℕ, zero, suc, _+_, _-_, _*_, _/_, _%_, _≤_, _<_}
 use mathlib.Core.Path.{_≡_, refl, sym, ap, ap₂, _∙_}
@@ -9,7 +9,7 @@ use mathlib.Core.List.{List, [], _∷_, _++_, map}
 use native.Mathlib.Omega.{arith}
 use native.Mathlib.Numerals.{add-one}
 use lib.Dec.{ltb}
-use lib.ListN.{length, getD, take, drop, set, length-append, length-map, List·getD-eq-default}
+use lib.ListN.{length, getD, take, drop, length-append, length-map, List·getD-eq-default}
 use lib.Seq.{sets, sets-eq, getD-drop, drop-drop, take-at}
 use borrow.Author.Tests.{ltb-true, ltb-false, lt-ltb, le-ltb}
 use Rattle.rules.specs.Base.{sum, joined}
@@ -19,21 +19,13 @@ use Rattle.rules.specs.Danc.{written, header, behind, bytesOf}
 use Rattle.rules.specs.Sheet.{allWords}
 use Rattle.rules.specs.Laying.{low}
 use Rattle.rules.specs.Packing1.{Five, five, flat, carriers, carriersFor, packsOf, packs}
+use Rattle.rules.proofs.Basics.{sets-append}
 use Rattle.rules.proofs.Words.{packet-words}
-use Rattle.rules.proofs.Packs.{flat-append, flat-length, packs-length}
+use Rattle.rules.proofs.Packs.{flat-append, flat-length, packet-packs}
 use Rattle.rules.proofs.Lister.{packs-laid-counted}
 use Rattle.sections.specs.Sections.{Ends, SectionsOf}
 use Rattle.sections.proofs.Laws.{Left, left-all, left-none, Next, next-of, next-ends, next-after, low-behind, headByte0, headByte1, header-next}
 use Rattle.packing1.specs.Fives.{packetFives, LaysFives}
-
--- ---- runs of stores
-
--- a run behind a run
-sets-append : (s t us : List ℕ) (at : ℕ) → sets us at (s ++ t) ≡ sets (sets us at s) (at + length s) t
-sets-append [] t us at = let e : at ≡ at + 0 = omega arith in ap (λ (n : ℕ). sets us n t) e
-sets-append (x ∷ s) t us at =
-    let e : suc at + length s ≡ at + suc (length s) = omega arith in
-    sets-append s t (set us at x) (suc at) ∙ ap (λ (n : ℕ). sets (sets (set us at x) (suc at) s) n t) e
 
 -- ---- low bytes
 
@@ -170,12 +162,8 @@ module _ (y : System) (p : Packet) (g : Sound y p) where
       let n : (length (behind p) + 3) / 4 ≡ carriersFor (length (p .user)) = omega arith in
       rw (n, e)
 
-packet-packs : (p : Packet) → length (flat (packs (written p))) ≡ 5 * packsOf p
-packet-packs p =
-    let f = flat-length (packs (written p)) in
-    let e = packs-length (written p ∷ []) in
-    let l = length-append (packs (written p)) [] in
-    omega arith
+pack-bytes : (p : Packet) → length (flat (packs (written p))) ≡ 5 * packsOf p
+pack-bytes p = flat-length (packs (written p)) ∙ ap (λ (n : ℕ). 5 * n) (packet-packs (written p))
 
 -- ---- a loop that lays packs
 
@@ -221,7 +209,7 @@ module _ {ls ws us₀ us : List ℕ} {k at o end : ℕ} (more : k + 1 < length l
         let s = size-next n in
         let m = needs-next n in
         let r = f .room in
-        let l = packet-packs p in
+        let l = pack-bytes p in
         let is : packetFives h0 h1 (map low (take (end - (at + 3)) (drop (at + 3) ws))) ≡ packs (written p) =
         ap (packetFives h0 h1) (body-there y p (n .sound) ws (allWords qs) at end (n .there) (five-ends n))
         ∙ packs-of y p (n .sound) h0 h1 (header-next y hm n e0 e1) in
@@ -273,4 +261,3 @@ fives-done {ls} {ws} {us₀} {us} {k} {at} {o} long end so = record { laid = λ 
         ∙ f .laid
         ∙ sets-eq s us₀ 0 (omega arith)
         ∙ ap (λ (m : ℕ). s ++ drop m us₀) d
-

@@ -4,9 +4,9 @@
 -- Assumes nothing.
 use Prim.Native.Nat.{ℕ, zero, suc, _+_, _-_, _*_, _/_, _%_, _≤_, _<_}
 use mathlib.Core.Path.{_≡_, refl, sym, ap, ap₂, _∙_}
-use mathlib.Core.Bool.{Bool, true, false, cond, _&&_, _||_}
+use mathlib.Core.Bool.{Bool, true, false, cond, _&&_}
 use mathlib.Core.List.{List, [], _∷_, _++_, append-assoc, append-nil}
-use native.Mathlib.Nat.{add-zero, zero-add}
+use native.Mathlib.Nat.{zero-add}
 use native.Mathlib.Numerals.{add-one}
 use native.Mathlib.Omega.{arith}
 use lib.Dec.{eqb, ltb, leb}
@@ -15,21 +15,15 @@ use lib.ListN.{drop-of-length-le}
 use lib.Seq.{sets, sets-eq, paste, paste-zero, paste-suc, getD-drop, drop-cons, drop-drop, drop-nil, drop-append-le, length-take-le}
 use borrow.Author.Tests.{eqb-true, eqb-false, leb-true, leb-false, ltb-true, ltb-false, lt-ltb, le-leb, lt-leb, ne-eqb}
 use Rattle.rules.specs.Base.{sum, none, one}
-use Rattle.rules.specs.Systems.{System, known, system, hd1080-60i, hd1080-50i, hd720-60p}
+use Rattle.rules.specs.Systems.{System, known, system}
 use Rattle.rules.specs.Blocks.{shift, width, runs, blockSizes}
 use Rattle.rules.specs.Packing2.{fill, filled, endBit, longPacks, stringRoom, longCount}
-use Rattle.rules.proofs.Basics.{all-append, second-false}
+use Rattle.rules.proofs.Basics.{all-append, second-false, sets-append}
+use Rattle.rules.proofs.Blocks.{each-system}
 use Rattle.rules.proofs.Long.{Roomy, long-none, long-length}
 use Rattle.packing2.specs.Long.{Padded, longFits, longAfter, CountOf, rowsOf, four, rowSizes, rowsSizes, LaidAt}
 
 -- ---- stores
-
--- a second run of stores goes on where the first ended
-sets-then : (xs ys us : List ℕ) (to : ℕ) → sets (sets us to xs) (to + length xs) ys ≡ sets us to (xs ++ ys)
-sets-then [] ys us to = rw add-zero
-sets-then (x ∷ xs) ys us to =
-    let e : to + suc (length xs) ≡ suc to + length xs = omega arith in
-    rw e (sets-then xs ys (set us to x) (suc to))
 
 -- a turn of the loop that stores an array: what is left of it, stored, gives the whole
 pub put-turn : (us a : List ℕ) (to i : ℕ) → i < length a
@@ -177,7 +171,7 @@ laid-then {ms} {ns} {s} {len} {at} {b} {to} {u} {us} {mid} {after} r v w eb eu =
         w .is p
         ∙ ap₂ (λ (m y : List ℕ). sets m u (longPacks ns [] y)) (v .is p) d
         ∙ ap (λ (k : ℕ). sets (sets us to xs) k ys) (sym l)
-        ∙ sets-then xs ys us to
+        ∙ sym (sets-append xs ys us to)
         ∙ ap (sets us to) (sym (packs-split ms ns t))
 
 -- one block, as the first of more
@@ -254,27 +248,15 @@ pub rows-end : (left : ℕ) {s : List ℕ} {len at to : ℕ} {us whole : List �
 rows-end zero h v p = sym (v .is p)
 rows-end (suc k) h v p = absurd (omega arith)
 
--- what holds of the three systems, and of a frame with nothing in it where the system is not known, holds of every number
-by-system : (P : System → Bool → Type 0) → P hd1080-60i true → P hd1080-50i true → P hd720-60p true
-    → P (record { sequences = 0; last = 0 }) false → (sys : ℕ) → P (system sys) (known sys)
-unfolding known system
-by-system P p q r z sys = go (eqb sys 1) (eqb sys 2) (eqb sys 3)
-  where
-    go : (a b c : Bool) → P (cond a hd1080-60i (cond b hd1080-50i (cond c hd720-60p (record { sequences = 0; last = 0 })))) (a || (b || c))
-    go true b c = p
-    go false true c = q
-    go false false true = r
-    go false false false = z
-
 -- the blocks of a system are those of its rows
 pub sizes-rows : (sys : ℕ) → blockSizes (system sys) ≡ rowsSizes (rowsOf sys)
 unfolding rowsOf runs shift width
-sizes-rows sys = by-system (λ (y : System) (k : Bool). blockSizes y ≡ rowsSizes (y .sequences / 2)) refl refl refl refl sys
+sizes-rows sys = each-system (λ (y : System) (k : Bool). blockSizes y ≡ rowsSizes (y .sequences / 2)) refl refl refl refl sys
 
 -- a system is known exactly where it has rows
 known-rows : (sys : ℕ) → known sys ≡ ltb 0 (rowsOf sys)
 unfolding rowsOf
-known-rows sys = by-system (λ (y : System) (k : Bool). k ≡ ltb 0 (y .sequences / 2)) refl refl refl refl sys
+known-rows sys = each-system (λ (y : System) (k : Bool). k ≡ ltb 0 (y .sequences / 2)) refl refl refl refl sys
 
 -- where a string does not fit, the user bytes stay
 pub after-kept : (sys len : ℕ) (s us : List ℕ) → longFits sys len ≡ false → us ≡ longAfter sys len s us

@@ -7,17 +7,16 @@ use Prim.Native.Nat.{ℕ, zero, suc, _+_, _-_, _*_, _/_, _%_, _≤_, _<_}
 use mathlib.Core.Path.{_≡_, refl, sym, ap, _∙_, subst}
 use mathlib.Core.Logic.{_⊎_, inl, inr, ⊎-elim}
 use mathlib.Core.Bool.{Bool, true, false, cond, _&&_, and-true, and-assoc}
-use mathlib.Core.List.{List, [], _∷_, _++_, append-assoc, append-nil}
-use native.Mathlib.Nat.{add-zero, zero-add}
-use native.Mathlib.Numerals.{add-one}
+use mathlib.Core.List.{List, [], _∷_, _++_, append-assoc}
+use native.Mathlib.Nat.{add-zero}
 use native.Mathlib.Omega.{arith}
 use lib.Dec.{eqb, ltb}
-use lib.ListN.{length, getD, take, drop, set, replicate, length-drop, drop-of-length-le}
-use lib.Seq.{sets, length-sets, paste-suc, getD-take, getD-drop, drop-drop, take-take, length-take-le}
+use lib.ListN.{length, getD, take, drop, set, replicate, length-drop}
+use lib.Seq.{sets, length-sets, getD-take, getD-drop, drop-drop, take-take, length-take-le}
 use borrow.Author.Tests.{lt-ltb, le-ltb, eq-eqb, ne-eqb}
 use Rattle.rules.specs.Base.{allIs, sum, one}
 use Rattle.rules.specs.Packing2.{Opened, opened, shut, onto, openPack, openLong, stringRoom}
-use Rattle.rules.proofs.Basics.{never, both, drop-take, sets-front, sets-behind}
+use Rattle.rules.proofs.Basics.{never, both, drop-take, sets-front, sets-behind, copy-turn}
 use Rattle.rules.proofs.Long.{Roomy}
 use Rattle.packing2.specs.Long.{rowsOf, rowSizes, rowsSizes}
 use Rattle.packing2.specs.Unlong.{openedFrom, openedCode, Pulled, roomAt, after, sizesFrom, openedOn, goOn, pulledDown}
@@ -40,12 +39,7 @@ pub get-turn : (z a s : List ℕ) (from i : ℕ) → i < length z → from + i <
     → set a i (getD s (from + i) 0) ≡ take (i + 1) (drop from s) ++ drop (i + 1) z
 get-turn z a s from i h k e =
     let l : i < length (drop from s) = simp length-drop (omega arith) in
-    let p = paste-suc z 0 (drop from s) i 0 (omega arith) l in
-    rw (e, add-one, ← getD-drop from s i 0) (rw (zero-add i, zero-add (suc i)) at p)
-
--- all are out
-pub get-end : (z a s : List ℕ) (from n i : ℕ) → a ≡ take i (drop from s) ++ drop i z → i ≡ n → length z ≤ n → a ≡ take n (drop from s)
-get-end z a s from n i v e h = v ∙ rw (e, drop-of-length-le z h) (append-nil (take n (drop from s)))
+    rw (← getD-drop from s i 0) (copy-turn z a (drop from s) i h l e)
 
 -- ---- packs by number
 

@@ -6,11 +6,13 @@ use Prim.Native.Nat.{ℕ, zero, suc, _+_, _-_, _≤_, _<_}
 use mathlib.Core.Path.{_≡_, refl, sym, ap, ap₂, _∙_}
 use mathlib.Core.Logic.{_⊎_, inl, inr}
 use mathlib.Core.Bool.{Bool, true, false, _&&_, _||_}
-use mathlib.Core.List.{List, [], _∷_, _++_, map, append-assoc}
+use mathlib.Core.List.{List, [], _∷_, _++_, map, append-assoc, append-nil}
+use native.Mathlib.Nat.{zero-add}
+use native.Mathlib.Numerals.{add-one}
 use native.Mathlib.Omega.{arith}
 use lib.Dec.{eqb}
-use lib.ListN.{length, getD, take, drop, set, replicate, length-append}
-use lib.Seq.{sets, sets-eq, take-nil, take-at, length-take-le, drop-set-lt}
+use lib.ListN.{length, getD, take, drop, set, replicate, length-append, length-drop, drop-of-length-le}
+use lib.Seq.{sets, sets-eq, take-nil, take-at, take-all, length-take-le, drop-set-lt, paste-suc}
 use borrow.Author.Tests.{eqb-true, eq-eqb}
 use Rattle.rules.specs.Base.{allIs, joined, All, none, one, Bytes}
 use Rattle.rules.specs.Packet.{Packet}
@@ -68,6 +70,27 @@ sets-front l i vs h =
 pub sets-behind : (l : List ℕ) (i : ℕ) (vs : List ℕ) (n : ℕ) → i + length vs ≤ n → drop n (sets l i vs) ≡ drop n l
 sets-behind l i [] n h = refl
 sets-behind l i (v ∷ vs) n h = sets-behind (set l i v) (suc i) vs n (omega arith) ∙ drop-set-lt n l i v (omega arith)
+
+-- a run behind a run
+pub sets-append : (s t us : List ℕ) (at : ℕ) → sets us at (s ++ t) ≡ sets (sets us at s) (at + length s) t
+sets-append [] t us at = let e : at ≡ at + 0 = omega arith in ap (λ (n : ℕ). sets us n t) e
+sets-append (x ∷ s) t us at =
+    let e : suc at + length s ≡ at + suc (length s) = omega arith in
+    sets-append s t (set us at x) (suc at) ∙ ap (λ (n : ℕ). sets (sets (set us at x) (suc at) s) n t) e
+
+-- a part that starts at a place and goes to the end
+pub rest-part : (n : ℕ) (s : List ℕ) → take (length s - n) (drop n s) ≡ drop n s
+rest-part n s = take-all (length s - n) (drop n s) (omega (arith, length-drop n s))
+
+-- a turn of a loop that copies s over z, element by element, and its end where z is full
+pub copy-turn : (z cur s : List ℕ) (i : ℕ) → i < length z → i < length s → cur ≡ take i s ++ drop i z
+    → set cur i (getD s i 0) ≡ take (i + 1) s ++ drop (i + 1) z
+copy-turn z cur s i h k e =
+    let p = paste-suc z 0 s i 0 (omega arith) k in
+    rw (e, add-one i) (rw (zero-add i, zero-add (suc i)) at p)
+
+pub copy-full : (z cur s : List ℕ) (n i : ℕ) → cur ≡ take i s ++ drop i z → i ≡ n → length z ≤ n → cur ≡ take n s
+copy-full z cur s n i v e h = v ∙ rw (e, drop-of-length-le z h) (append-nil (take n s))
 
 -- ---- bytes
 

@@ -299,17 +299,30 @@ facts12 line h =
       last = h;
     }
 
+-- the frame of an unknown system
+abbrev no-frame : System
+no-frame = record { sequences = 0; last = 0 }
+
+-- what holds of each of the three systems, known, and of the empty frame, unknown, holds of the system of any number
+pub each-system : (P : System → Bool → Type 0) → P hd1080-60i true → P hd1080-50i true → P hd720-60p true → P no-frame false
+    → (sys : ℕ) → P (system sys) (known sys)
+unfolding known system
+each-system P p q r n sys = go (eqb sys 1) (eqb sys 2) (eqb sys 3)
+  where
+    go : (a b c : Bool) → P (cond a hd1080-60i (cond b hd1080-50i (cond c hd720-60p no-frame))) (a || (b || c))
+    go true b c = p
+    go false true c = q
+    go false false true = r
+    go false false false = n
+
 -- the facts hold of every system that is known
 pub facts-of : (sys : ℕ) → known sys ≡ true → Facts (system sys)
-unfolding known system
-facts-of sys e = go (eqb sys 1) (eqb sys 2) (eqb sys 3) e
-  where
-    go : (a b c : Bool) → (a || (b || c)) ≡ true
-        → Facts (cond a hd1080-60i (cond b hd1080-50i (cond c hd720-60p (record { sequences = 0; last = 0 }))))
-    go true b c e = facts10 1125 (omega arith)
-    go false true c e = facts12 1125 (omega arith)
-    go false false true e = facts10 750 (omega arith)
-    go false false false e = never (cc)
+facts-of =
+    each-system (λ (y : System) (k : Bool). k ≡ true → Facts y)
+    (λ e. facts10 1125 (omega arith))
+    (λ e. facts12 1125 (omega arith))
+    (λ e. facts10 750 (omega arith))
+    (λ e. never (cc))
 
 -- a known system's number is small
 pub known-low : (sys : ℕ) → known sys ≡ true → sys ≤ 3

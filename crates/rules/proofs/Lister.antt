@@ -27,7 +27,7 @@ use Rattle.rules.proofs.Packs.{packs-length}
 use Rattle.rules.proofs.Sheets.{system-back, sheet-read, sheet-laid, unless-from, list-refused}
 
 -- a refusal's number is not 0
-sheet-refused : (s : List ℕ) (n i : ℕ) → sheetTests s ≡ refused n i → 1 ≤ n
+pub sheet-refused : (s : List ℕ) (n i : ℕ) → sheetTests s ≡ refused n i → 1 ≤ n
 unfolding sheetTests
 sheet-refused s n i e =
     unless-from 1 2 (shaped s) _ n i

@@ -345,7 +345,7 @@ packs-order (x ∷ xs) m =
 
 -- ---- how many, and the room they take
 
-packet-packs : (x : Item) → length (packs x) ≡ packsOf (x .packet)
+pub packet-packs : (x : Item) → length (packs x) ≡ packsOf (x .packet)
 unfolding packs
 packet-packs x = let k = carriers-length (carriersFor (length (x .packet .user))) (behind (x .packet)) in omega arith
 

@@ -36,7 +36,7 @@ module _ (sys : ℕ) (k : known sys ≡ true) where
       rw (k, lt-leb (length s) at (omega arith), e, string-fine y (facts-of sys k .last) x r g)
 
   -- a step at the end, or past it
-  step-end : (s : List ℕ) (at : ℕ) → length s ≤ at → walk sys s at ≡ step 0 at 0
+  pub step-end : (s : List ℕ) (at : ℕ) → length s ≤ at → walk sys s at ≡ step 0 at 0
   unfolding walk
   step-end s at h = rw (k, le-leb (length s) at h)
 

@@ -20,11 +20,12 @@ use Rattle.rules.specs.Danc.{written, header, behind, danc, string, bytesOf, st
 use Rattle.rules.specs.Sheet.{locations, allWords, countIn, locationsIn, wordsIn}
 use Rattle.rules.specs.Laying.{low}
 use Rattle.rules.specs.Demands.{SheetOf}
+use Rattle.rules.proofs.Basics.{rest-part}
 use Rattle.rules.proofs.Blocks.{facts-of}
 use Rattle.rules.proofs.Sheets.{locations-back, words-back}
 use Rattle.rules.proofs.Words.{low-word, packet-words, words-room, map-low}
 use Rattle.rules.proofs.Strings.{danc-length}
-use Rattle.danc.proofs.Laws.{header-written, rest-part}
+use Rattle.danc.proofs.Laws.{header-written}
 use Rattle.sections.specs.Sections.{Ends, SectionsOf, Heads, LaysString}
 
 -- ---- low bytes
@@ -282,11 +283,13 @@ module _ {ls ws s : List ℕ} {k at end : ℕ} (more : k + 1 < length ls) (e : E
   module _ {s₀ : List ℕ} (so : HeadsSoFar ls ws s₀ s k at) where
     -- no packet is missing
     pub heads-whole : end ≡ 0 → Heads ls ws s₀ s
-    heads-whole z = record { laid = λ y ps r h b. absurd (
-      let f = so .of y ps r h b in
-      let w = next-ends y ls ws k at end (f .left) (next-head y ps r f) e in
-      omega arith
-    ) }
+    heads-whole z = record {
+      laid = λ y ps r h b. absurd (
+          let f = so .of y ps r h b in
+          let w = next-ends y ls ws k at end (f .left) (next-head y ps r f) e in
+          omega arith
+          );
+    }
 
     -- one header more
     pub heads-turn : {h0 h1 : ℕ} → h0 ≡ headByte0 (getD ls k 0) → h1 ≡ headByte1 (getD ls k 0) (getD ls (k + 1) 0)

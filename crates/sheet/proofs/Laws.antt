@@ -37,8 +37,7 @@ use Rattle.rules.specs.Laying.{
 }
 use Rattle.rules.specs.Lister.{testedOf, tested}
 use Rattle.rules.specs.declared.Tested.{Tested}
-use Rattle.danc.proofs.Laws.{rest-part}
-use Rattle.rules.proofs.Basics.{both, second-false}
+use Rattle.rules.proofs.Basics.{both, second-false, rest-part}
 use Rattle.rules.proofs.Words.{words-enough, words-refused}
 use Rattle.frame.specs.Systems.{figuresOf}
 use Rattle.frame.specs.declared.Figures.{Figures}

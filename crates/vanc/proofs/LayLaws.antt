@@ -29,7 +29,7 @@ use Rattle.rules.specs.declared.Laid.{Laid}
 use Rattle.rules.specs.declared.Tested.{Tested}
 use Rattle.rules.proofs.Basics.{written-back}
 use Rattle.rules.proofs.Words.{words-room}
-use Rattle.rules.proofs.Blocks.{facts-of, scatter-front}
+use Rattle.rules.proofs.Blocks.{facts-of, scatter-front, each-system}
 use Rattle.rules.proofs.Packs.{flat-length}
 use Rattle.rules.proofs.Lister.{bytes-counted, packs-laid-counted}
 use Rattle.rules.proofs.Users.{users-length}
@@ -37,7 +37,7 @@ use Rattle.rules.proofs.Laying.{lays-outcome, refuses-packing, refuses-shape, r
 use Rattle.frame.specs.Systems.{figuresOf}
 use Rattle.frame.specs.Bytes.{areaWith}
 use Rattle.frame.specs.declared.Figures.{Figures}
-use Rattle.frame.proofs.Laws.{each-system, area-is}
+use Rattle.frame.proofs.Laws.{area-is}
 use Rattle.sections.specs.Sections.{SectionsOf, LaysString}
 use Rattle.sections.proofs.Laws.{sections-of}
 use Rattle.packing1.specs.Fives.{LaysFives}

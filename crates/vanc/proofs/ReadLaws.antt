@@ -29,12 +29,12 @@ use Rattle.rules.proofs.Sheets.{sheet-length}
 use Rattle.rules.proofs.Long.{long-bytes}
 use Rattle.rules.proofs.Strings.{StringOf, string-laid, string-room}
 use Rattle.rules.proofs.Rows.{row-few, row-place}
-use Rattle.rules.proofs.Blocks.{gather-length, facts-of, known-low}
+use Rattle.rules.proofs.Blocks.{gather-length, facts-of, known-low, each-system}
 use Rattle.rules.proofs.Reading.{reads}
 use Rattle.frame.specs.Bytes.{collected, bytesAfter}
 use Rattle.frame.specs.Systems.{figuresOf}
 use Rattle.frame.specs.declared.Figures.{Figures}
-use Rattle.frame.proofs.Laws.{each-system, area-is, is-unknown, is-known}
+use Rattle.frame.proofs.Laws.{area-is, is-unknown, is-known}
 use Rattle.sheet.specs.Write.{shownRow, shown, wrote, sheetAfter}
 use Rattle.sheet.proofs.WriteLaws.{shown-string, words-short}
 use Rattle.danc.specs.Code.{base, refusedFrom, codeOf}

@@ -2,7 +2,7 @@
 -- bytes ahead they are the whole.
 use Prim.Native.Nat.{ℕ, _+_, _-_, _<_}
 use mathlib.Core.Path.{_≡_, refl, sym, _∙_}
-use mathlib.Core.Bool.{Bool, true, false, _&&_}
+use mathlib.Core.Bool.{Bool, true, false, _&&_, and-assoc, and-true}
 use mathlib.Core.List.{List}
 use native.Mathlib.Nat.{lt-of-le-of-lt}
 use native.Mathlib.Omega.{arith}
@@ -26,18 +26,10 @@ both-fill a b h k = go (eqb a 255) refl (eqb b 255) refl
     go true e false f = ne-eqb (bitAnd a b) 255 (λ q. eqb-false b 255 f (let l = and-le-r a b in omega arith))
     go false e z f = ne-eqb (bitAnd a b) 255 (λ q. eqb-false a 255 e (let l = and-le-l a b in omega arith))
 
-regroup : (a b c : Bool) → ((a && b) && c) ≡ (a && (b && c))
-regroup true b c = refl
-regroup false b c = refl
-
 -- the byte at i is passed
 turn : (s : List ℕ) (i a : ℕ) → i < length s → a < 256 → getD s i 0 < 256 → (eqb a 255 && allIs 255 (drop i s)) ≡ allIs 255 s
     → (eqb (bitAnd a (getD s i 0)) 255 && allIs 255 (drop (i + 1) s)) ≡ allIs 255 s
-turn s i a h k b e = rw (both-fill a (getD s i 0) k b, regroup, add-one i) (rw (drop-cons s i 0 h) at e)
-
-last : (a : Bool) → (a && true) ≡ a
-last true = refl
-last false = refl
+turn s i a h k b e = rw (both-fill a (getD s i 0) k b, and-assoc, add-one i) (rw (drop-cons s i 0 h) at e)
 
 abbrev Inv-loop : tie.InvT-loop
 Inv-loop s all₀ i₀ all i = (all < 256) × ((eqb all 255 && allIs 255 (drop i s)) ≡ allIs 255 s)
@@ -66,7 +58,7 @@ loop-again c =
     )
 
 returns : tie.Need-returns Inv-loop μ-loop
-returns c = sym (last _) ∙ (rw (drop-of-length-le _ (c .loop-test .left)) at (c .before .loop .inv .1))
+returns c = sym (and-true _) ∙ (rw (drop-of-length-le _ (c .loop-test .left)) at (c .before .loop .inv .1))
 
 pub all-fill-spec : {M : Type 1} → statement M
 all-fill-spec = tie.close (tie.spec Inv-loop μ-loop loop-holds shared-slice-read-all add-i loop-less loop-again returns)

@@ -5,7 +5,8 @@ use mathlib.Core.Path.{_≡_, refl}
 use native.Mathlib.Omega.{arith}
 use borrow.Author.Needs.{needs}
 use lib.ListN.{replicate}
-use Rattle.frame.proofs.Moves.{copied, copy-turn, copy-got}
+use Rattle.rules.proofs.Basics.{copy-turn}
+use Rattle.frame.proofs.Moves.{copied, copy-got}
 use Rattle.frame.proofs.blocks.get45.Statement.{statement}
 use Rattle.frame.proofs.blocks.get45.Tie as tie
 
@@ -34,7 +35,7 @@ loop-again : tie.Need-loop-again Inv-loop μ-loop
 loop-again c =
     let l = c .before .before .loop in
     let s = c .before .before .before .args .src .now in
-    (omega arith, copy-turn (l .i) s (replicate 45 0) (l .a) (omega arith) (omega arith) (l .inv .1))
+    (omega arith, copy-turn (replicate 45 0) (l .a) s (l .i) (omega arith) (omega arith) (l .inv .1))
 
 returns : tie.Need-returns Inv-loop μ-loop
 returns c =

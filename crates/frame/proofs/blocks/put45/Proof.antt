@@ -5,7 +5,8 @@ use mathlib.Core.Path.{_≡_, refl, _∙_}
 use native.Mathlib.Omega.{arith}
 use borrow.Author.Needs.{needs}
 use lib.ListN.{length, length-set}
-use Rattle.frame.proofs.Moves.{copied, copy-turn, copy-end}
+use Rattle.rules.proofs.Basics.{copy-turn}
+use Rattle.frame.proofs.Moves.{copied, copy-end}
 use Rattle.frame.proofs.blocks.put45.Statement.{statement}
 use Rattle.frame.proofs.blocks.put45.Tie as tie
 
@@ -35,7 +36,7 @@ loop-again c =
     let l = c .before .loop in
     let s = c .before .before .args in (
       omega arith,
-      copy-turn (l .i) (s .t1) (s .dst .now) (l .dst) (omega arith) (omega arith) (l .inv .1),
+      copy-turn (s .dst .now) (l .dst) (s .t1) (l .i) (omega arith) (omega arith) (l .inv .1),
       length-set (l .dst) (l .i) _ ∙ l .inv .2,
     )
 

@@ -5,7 +5,8 @@ use mathlib.Core.List.{_++_}
 use native.Mathlib.Omega.{arith}
 use lib.ListN.{replicate, take, drop}
 use borrow.Author.Needs.{needs}
-use Rattle.packing2.proofs.UnlongLaws.{get-turn, get-end}
+use Rattle.rules.proofs.Basics.{copy-full}
+use Rattle.packing2.proofs.UnlongLaws.{get-turn}
 use Rattle.packing2.proofs.unlong.get42.Statement.{statement}
 use Rattle.packing2.proofs.unlong.get42.Tie as tie
 
@@ -41,7 +42,7 @@ loop-again c =
 returns : tie.Need-returns Inv-loop μ-loop
 returns c =
     let z = c .before .before .args in
-    get-end (replicate 42 0) _ (z .s .now) (z .from) 42 (c .before .loop .i) (c .before .loop .inv .1) (omega arith) (omega arith)
+    copy-full (replicate 42 0) _ (drop (z .from) (z .s .now)) 42 (c .before .loop .i) (c .before .loop .inv .1) (omega arith) (omega arith)
 
 pub get42-spec : {M : Type 1} → statement M
 get42-spec =

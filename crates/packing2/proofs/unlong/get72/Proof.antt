@@ -6,7 +6,8 @@ use mathlib.Core.List.{_++_}
 use native.Mathlib.Omega.{arith}
 use lib.ListN.{replicate, take, drop}
 use borrow.Author.Needs.{needs}
-use Rattle.packing2.proofs.UnlongLaws.{get-turn, get-end}
+use Rattle.rules.proofs.Basics.{copy-full}
+use Rattle.packing2.proofs.UnlongLaws.{get-turn}
 use Rattle.packing2.proofs.unlong.get72.Statement.{statement}
 use Rattle.packing2.proofs.unlong.get72.Tie as tie
 
@@ -42,7 +43,7 @@ loop-again c =
 returns : tie.Need-returns Inv-loop μ-loop
 returns c =
     let z = c .before .before .args in
-    get-end (replicate 72 0) _ (z .s .now) (z .from) 72 (c .before .loop .i) (c .before .loop .inv .1) (omega arith) (omega arith)
+    copy-full (replicate 72 0) _ (drop (z .from) (z .s .now)) 72 (c .before .loop .i) (c .before .loop .inv .1) (omega arith) (omega arith)
 
 pub get72-spec : {M : Type 1} → statement M
 get72-spec =
