@@ -11,7 +11,7 @@ use native.Mathlib.Omega.{arith}
 use native.Mathlib.Numerals.{add-one}
 use lib.Dec.{eqb}
 use lib.ListN.{length, getD, take, drop, set, length-append, length-drop, length-map, drop-of-length-le, take-append-drop}
-use lib.Seq.{sets, sets-eq, length-sets, length-take-le, length-front, drop-cons, drop-drop, take-at, take-all}
+use lib.Seq.{sets, sets-eq, length-sets, drop-cons, drop-drop, take-at, take-all}
 use borrow.Author.Tests.{le-leb, lt-leb, eq-eqb, ne-eqb}
 use Rattle.rules.specs.Base.{joined, All}
 use Rattle.rules.specs.Systems.{System, system}
@@ -26,6 +26,7 @@ use Rattle.rules.specs.declared.Tested.{Tested}
 use Rattle.rules.proofs.Basics.{sets-front, sets-behind, rest-part}
 use Rattle.rules.proofs.Words.{low-word, map-low}
 use Rattle.rules.proofs.Sheets.{system-back, sheet-read}
+use Rattle.sheet.proofs.Filling.{part-kept, part-front}
 use Rattle.sections.specs.Sections.{SectionsOf}
 use Rattle.sections.proofs.Laws.{sections-of, Left, left-all, left-none, Next, next-of}
 use Rattle.mxf.specs.Element.{two, three, four, key, wrapping, coding, bare, samples, structure, value, element, elementOf}
@@ -255,22 +256,6 @@ front-run {l₀} {l} {after} {front} {i} {j} vs f e h is =
 pub lent-long : (n : ℕ) (s t : List ℕ) → length s ≡ n + length t → length (take (length s - n) (drop n s)) ≡ length t
 lent-long n s t e = ap length (rest-part n s) ∙ length-drop n s ∙ (let m : length s - n ≡ length t = omega arith in m)
 
--- with a part that was lent and came back
-pub part-long : (a n : ℕ) (l ys : List ℕ) → length ys ≡ length (take n (drop a l)) → length (take a l ++ (ys ++ drop n (drop a l))) ≡ length l
-part-long a n l ys e =
-    length-append (take a l) (ys ++ drop n (drop a l))
-    ∙ ap (λ (m : ℕ). length (take a l) + m) (length-front (drop a l) ys n e)
-    ∙ sym (length-append (take a l) (drop a l))
-    ∙ ap length (take-append-drop a l)
-
--- what stands up to its end
-part-front : (a n end : ℕ) (l ys : List ℕ) → a ≤ length l → end ≡ a + length ys → take end (take a l ++ (ys ++ drop n (drop a l))) ≡ take a l ++ ys
-part-front a n end l ys h e =
-    let m = length-take-le a l h in
-    let k = length-append (take a l) ys in
-    ap (take end) (sym (append-assoc (take a l) ys (drop n (drop a l))))
-    ∙ take-at (take a l ++ ys) (drop n (drop a l)) end (omega arith)
-
 -- ---- a structure
 
 -- its fields before the array, with the array's count and element length in halves
@@ -374,7 +359,7 @@ module _ {sys : ℕ} {fi : Bool} {ls ws out : List ℕ} {k at o : ℕ} (so : Str
   -- a structure came back to its place
   pub structures-kept : {next o₁ : ℕ} (ys : List ℕ) {out₁ : List ℕ} → out₁ ≡ take o out ++ (ys ++ drop (next - o) (drop o out)) → o₁ ≡ next
       → length ys ≡ length (take (next - o) (drop o out)) → length out₁ ≡ length out
-  structures-kept {next} {o₁} ys eo e₁ kept = ap length eo ∙ part-long o (next - o) out ys kept
+  structures-kept {next} {o₁} ys eo e₁ kept = ap length eo ∙ part-kept o (next - o) out ys kept
 
   module _ (more : 2 * k < length ls) where
     structures-next : (y : System) (ps : List Packet) (h : SectionsOf y ps ls ws) → Next y ls ws (2 * k) at (so .of y ps h .left)

@@ -7,8 +7,8 @@ use mathlib.Core.Path.{_≡_, refl, sym, ap, ap₂, _∙_}
 use mathlib.Core.List.{List, [], _∷_, _++_, append-assoc, append-nil}
 use native.Mathlib.Omega.{arith}
 use native.Mathlib.Numerals.{add-one}
-use lib.ListN.{length, take, drop, set, length-append, length-drop, length-set, drop-of-length-le}
-use lib.Seq.{length-take-le, take-suc-set, take-at, drop-at, take-all, append-snoc}
+use lib.ListN.{length, take, drop, set, length-append, length-drop, length-set, drop-of-length-le, take-append-drop}
+use lib.Seq.{length-take-le, length-front, take-suc-set, take-at, drop-at, take-all, append-snoc}
 use Rattle.rules.specs.Packet.{Packet}
 use Rattle.rules.specs.Sheet.{locations, allWords, sheetOf}
 use Rattle.rules.proofs.Sheets.{locations-length}
@@ -27,6 +27,23 @@ two-more out i a b r h =
     let l = length-set out i a in
     rw e (one-more (set out i a) (i + 1) b r (omega arith) ∙ one-more out i a (b ∷ r) (omega arith))
 
+-- with a part that was lent and came back, a list is as long as it was
+pub part-kept : (a n : ℕ) (l ys : List ℕ) → length ys ≡ length (take n (drop a l)) → length (take a l ++ (ys ++ drop n (drop a l))) ≡ length l
+part-kept a n l ys e =
+    length-append (take a l) (ys ++ drop n (drop a l))
+    ∙ ap (λ (m : ℕ). length (take a l) + m) (length-front (drop a l) ys n e)
+    ∙ sym (length-append (take a l) (drop a l))
+    ∙ ap length (take-append-drop a l)
+
+-- and what stands up to the part's end
+pub part-front : (a n end : ℕ) (l ys : List ℕ) → a ≤ length l → end ≡ a + length ys
+    → take end (take a l ++ (ys ++ drop n (drop a l))) ≡ take a l ++ ys
+part-front a n end l ys h e =
+    let m = length-take-le a l h in
+    let k = length-append (take a l) ys in
+    ap (take end) (sym (append-assoc (take a l) ys (drop n (drop a l))))
+    ∙ take-at (take a l ++ ys) (drop n (drop a l)) end (omega arith)
+
 -- a part more, which was lent and came back
 module _ (out ys : List ℕ) (at end : ℕ) (h : at ≤ end) (k : end ≤ length out) (l : length ys ≡ end - at) where
   abbrev after : List ℕ
@@ -37,20 +54,14 @@ module _ (out ys : List ℕ) (at end : ℕ) (h : at ≤ end) (k : end ≤ length
 
   pub part-long : length (take at out ++ (ys ++ after)) ≡ length out
   part-long =
-      let a = length-append (take at out ++ ys) after in
-      let b = length-drop (end - at) (drop at out) in
       let c = length-drop at out in
-      let d = front-long in
-      ap length (sym (append-assoc (take at out) ys after)) ∙ (omega arith)
+      part-kept at (end - at) out ys (l ∙ sym (length-take-le (end - at) (drop at out) (omega arith)))
 
   pub part-behind : drop end (take at out ++ (ys ++ after)) ≡ after
   part-behind = ap (drop end) (sym (append-assoc (take at out) ys after)) ∙ drop-at (take at out ++ ys) after end front-long
 
   pub part-more : (r : List ℕ) → take end (take at out ++ (ys ++ after)) ++ r ≡ take at out ++ (ys ++ r)
-  part-more r =
-      let e : take end (take at out ++ (ys ++ after)) ≡ take at out ++ ys =
-      ap (take end) (sym (append-assoc (take at out) ys after)) ∙ take-at (take at out ++ ys) after end front-long in
-      rw e (append-assoc (take at out) ys r)
+  part-more r = rw (part-front at (end - at) end out ys (omega arith) (omega arith)) (append-assoc (take at out) ys r)
 
 -- all is written
 pub all-written : (out r goal : List ℕ) (i : ℕ) → length out ≤ i → r ≡ [] → take i out ++ r ≡ goal → out ≡ goal

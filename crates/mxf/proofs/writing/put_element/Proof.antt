@@ -6,7 +6,8 @@ use native.Mathlib.Omega.{arith}
 use lib.ListN.{length}
 use borrow.Author.Needs.{needs}
 use Rattle.mxf.specs.Served.{served}
-use Rattle.mxf.proofs.WritingLaws.{lent-long, part-long, structuresOf, element-room, element-put}
+use Rattle.sheet.proofs.Filling.{part-kept}
+use Rattle.mxf.proofs.WritingLaws.{lent-long, structuresOf, element-room, element-put}
 use Rattle.mxf.proofs.writing.put_element.Statement.{statement}
 use Rattle.mxf.proofs.writing.put_element.Tie as tie
 
@@ -52,7 +53,7 @@ same-length c =
     let t = c .before .before .before .before .before .before in
     let o = t .put-head .last .1 .0 in
     let r = c .before .before .put-structures in
-    part-long 22 (length o - 22) o (r .last .1 .1 .1 .1 .0) (r .kept .1 .1 .1 .1 .0) ∙ long t
+    part-kept 22 (length o - 22) o (r .last .1 .1 .1 .1 .0) (r .kept .1 .1 .1 .1 .0) ∙ long t
 
 returns : tie.Need-returns
 returns c = λ y ps h.

@@ -5,7 +5,8 @@ use mathlib.Core.Path.{_≡_, _∙_}
 use native.Mathlib.Omega.{arith}
 use lib.ListN.{length, length-set}
 use borrow.Author.Needs.{needs}
-use Rattle.mxf.proofs.WritingLaws.{lent-long, part-long, structure-put}
+use Rattle.sheet.proofs.Filling.{part-kept}
+use Rattle.mxf.proofs.WritingLaws.{lent-long, structure-put}
 use Rattle.mxf.proofs.writing.put_structure.Statement.{statement}
 use Rattle.mxf.proofs.writing.put_structure.Tie as tie
 
@@ -94,7 +95,7 @@ same-length : tie.Need-same-length
 same-length c =
     let t = c .before .before .before .before .before .before in
     let o = t .put-two6 .last .0 in
-    part-long 14 (length o - 14) o (c .before .before .put-samples .last .1 .0) (c .before .before .put-samples .kept .1 .0) ∙ long6 t
+    part-kept 14 (length o - 14) o (c .before .before .put-samples .last .1 .0) (c .before .before .put-samples .kept .1 .0) ∙ long6 t
 
 returns : tie.Need-returns
 returns c =
