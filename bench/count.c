@@ -13,23 +13,29 @@
 
 typedef uint64_t plugin_id;
 struct qemu_plugin_tb;
+struct qemu_plugin_insn;
 typedef void (*on_block)(plugin_id, struct qemu_plugin_tb *);
 typedef void (*on_exit)(plugin_id, void *);
 
 void qemu_plugin_register_vcpu_tb_trans_cb(plugin_id, on_block);
 void qemu_plugin_register_atexit_cb(plugin_id, on_exit, void *);
 size_t qemu_plugin_tb_n_insns(const struct qemu_plugin_tb *);
-void qemu_plugin_register_vcpu_tb_exec_inline(struct qemu_plugin_tb *, int add, void *counter, uint64_t step);
+struct qemu_plugin_insn *qemu_plugin_tb_get_insn(const struct qemu_plugin_tb *, size_t);
+void qemu_plugin_register_vcpu_insn_exec_inline(struct qemu_plugin_insn *, int add, void *counter, uint64_t step);
 
 int qemu_plugin_version = 1;
 
 static uint64_t executed;
 
-/* Each time the block runs, as many as it has are added. */
+/*
+ * One is added where each instruction runs. (Adding a block's number of them would be faster, and wrong by one wherever an instruction lies
+ * across the end of a page: qemu ends the block before it, and has counted it already. The number would depend on where the code lies.)
+ */
 static void translated(plugin_id id, struct qemu_plugin_tb *block)
 {
     (void)id;
-    qemu_plugin_register_vcpu_tb_exec_inline(block, 0, &executed, qemu_plugin_tb_n_insns(block));
+    for (size_t i = 0; i < qemu_plugin_tb_n_insns(block); i++)
+        qemu_plugin_register_vcpu_insn_exec_inline(qemu_plugin_tb_get_insn(block, i), 0, &executed, 1);
 }
 
 static void ended(plugin_id id, void *nothing)
