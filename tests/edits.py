@@ -3,7 +3,7 @@
 tests/edits/CRATE/NAME.edit has the form of rt's own must-fail edits: 'file: PATH' under the crate's src/, specs/ or proofs/, then pairs
 'old: TEXT' and 'new: TEXT', and words for the reader. rt proves a whole crate for each edit; here a crate is checked once as it is, and then
 with each edit only what the edit moves is checked again, in a tenth of the time. An edit fails the gate if the crate is still proved with
-it, if its old text does not stand there once, or if it is the compiler that refuses it.
+it, if its old text does not stand there once, if it is the compiler that refuses it, or if the proof does not come so far as a fact.
 
 Two copies of the repository are worked on side by side. A crate belongs to one of them, so that its incremental folder is filled once.
 """
@@ -24,6 +24,8 @@ COUNT = "tests/edits/COUNT"
 PARTS = ("src", "specs", "proofs")
 COPIES = 2
 CUT = 150
+# How the prover says that the proof speaks of steps which the edited code does not have. Such an edit shows nothing of the facts.
+OTHER_SHAPE = ("that can be named from here", "has no field")
 
 
 class BadEdit(Exception):
@@ -164,7 +166,7 @@ class Tries:
             print(line, flush=True)
 
     def check(self, root, crate):
-        """What rt dev answers of the crate: 'proved', 'not-proved', or 'nothing' where it did not come so far; its first error; seconds."""
+        """What rt dev answers of the crate: 'proved', 'not-proved', 'shape', or 'nothing' where it did not come so far; its first error; seconds."""
         began = time.time()
         with self.lock:
             if self.stopped:
@@ -180,9 +182,13 @@ class Tries:
                 sys.exit()
         logic = re.search(r"^logic=(proved|not-proved)\b", said, re.M)
         answer = logic.group(1) if logic and process.returncode == (0 if logic.group(1) == "proved" else 1) else "nothing"
-        first = re.search(r"^\S+: error.*", said, re.M) or re.search(r"^note: .*", said, re.M)
-        first = first.group(0) if first else said.strip().split("\n")[-1]
-        return answer, first.replace(f"{root}/crates/{crate}/", "")[:CUT], time.time() - began
+        # Where the prover needs no proof by hand it says in a note what does not hold, and its errors are what follows from that.
+        errors = [line for line in re.findall(r"^\S+: error.*", said, re.M) if "was not admitted" not in line]
+        lines = errors or re.findall(r"^note: .*", said, re.M) or said.strip().split("\n")[-1:]
+        first = lines[0].replace(f"{root}/crates/{crate}/", "")[:CUT]
+        if answer == "not-proved" and any(words in first for words in OTHER_SHAPE):
+            answer = "shape"
+        return answer, first, time.time() - began
 
     def try_crate(self, root, crate):
         answer, first, took = self.check(root, crate)
@@ -209,6 +215,7 @@ class Tries:
                 "proved": "NOT REFUSED: the crate is still proved with it",
                 "bad": "BAD EDIT",
                 "nothing": "BAD EDIT: it did not reach the prover",
+                "shape": "BAD EDIT: refused for the code's shape, not for a fact that no longer holds",
             }[answer]
             if answer == "not-proved":
                 self.refused += 1
