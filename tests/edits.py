@@ -87,16 +87,17 @@ def wrong_counts():
     for line in open(COUNT, encoding="utf-8"):
         words = line.split("#")[0].split()
         if words:
-            counted[words[0]] = [int(n) for n in words[1:]]
-    here = {path.split("/")[-2 if path.startswith("tests") else 1] for path in glob.glob("tests/edits/*/*") + glob.glob("crates/*/must-fail/*")}
-    for crate in sorted(here | set(counted)):
+            counted[words[0]] = tuple(map(int, words[1:]))
+    with_edits = {path.split("/")[1] for path in glob.glob("crates/*/must-fail")} | {path.split("/")[2] for path in glob.glob("tests/edits/*/")}
+    for crate in sorted(with_edits | set(counted)):
         if crate not in dependencies():
-            wrong.append(f"edits of '{crate}', which crates.txt does not list")
-        stand = [len(of_rt(crate)), len(ours(crate))]
-        for folder, wanted, found in zip((f"crates/{crate}/must-fail", f"tests/edits/{crate}"), counted.get(crate, [0, 0]), stand):
-            if wanted != found:
-                wrong.append(f"{folder} has {found} edits, and {COUNT} says {wanted}: bring the missing one back, or change the count with the edits")
-            wrong += [f"{path} is no .edit file: nothing tries it" for path in sorted(glob.glob(f"{folder}/*")) if not path.endswith(".edit")]
+            wrong.append(f"there are edits of '{crate}', which crates.txt does not list")
+        wanted = counted.get(crate, (0, 0))
+        for folder, count, edits in zip((f"crates/{crate}/must-fail", f"tests/edits/{crate}"), wanted, (of_rt(crate), ours(crate))):
+            if len(edits) != count:
+                wrong.append(f"{folder} has {len(edits)} edits, and {COUNT} says {count}: bring back what is missing, or change the count with the edits")
+            others = set(glob.glob(f"{folder}/*")) - set(edits)
+            wrong += [f"{path} is no .edit file: nothing tries it" for path in sorted(others)]
     return wrong
 
 
@@ -111,7 +112,7 @@ def stand():
             wrong.append(f"{edit}: {bad}")
     for line in wrong:
         print(f"edits: {line}")
-    print(f"edits: {len(edits)} stand, {len(wrong)} faults")
+    print(f"edits: {len(edits)} stand, each with its text in its crate once" if not wrong else f"edits: {len(edits)} stand, faults: {len(wrong)}")
     return not wrong
 
 
