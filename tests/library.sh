@@ -9,8 +9,7 @@ need nm binutils
 work=$(mktemp -d)
 trap 'rm -rf "$work"' EXIT
 
-quietly rt staticlib vanc
-archive=target/staticlib/libvanc.a
+need_archive
 
 nm "$archive" >"$work/symbols"
 python3 tests/header.py include/vanc.h "$work/symbols" crates/vanc/src/c.rt crates/rules/src/lib.rt crates/mxf/src/lib.rt

@@ -1,6 +1,7 @@
 # What this machine has. Sourced: `need COMMAND PACKAGE` installs a Debian package where the command is missing; `run PROGRAM ..` runs an
 # x86-64 program, as all that the toolchain builds are, on any processor; `need_cc` sees to a C compiler for such programs, and `cc_for ..` calls it;
-# `need_own_cc` sees to gcc for this machine's own; `quietly COMMAND ..` shows what a command says only where it fails.
+# `need_own_cc` sees to gcc for this machine's own; `quietly COMMAND ..` shows what a command says only where it fails; `need_archive` sees to the
+# library's archive, which is then in `$archive`.
 
 as_root() {
   if [ "$(id -u)" = 0 ]; then "$@"; else sudo "$@"; fi
@@ -18,6 +19,18 @@ quietly() {
     printf '%s\n' "$said" >&2
     return 1
   }
+}
+
+# `rt staticlib` proves the crate again each time, so it is called only where the crates or the toolchain are not those that the archive was made of.
+archive=target/staticlib/libvanc.a
+need_archive() {
+  local of
+  of=$({ rt version && cat crates.txt && find crates/*/src crates/*/specs crates/*/proofs -type f -exec sha256sum {} + | LC_ALL=C sort; } | sha256sum)
+  if [ ! -e "$archive" ] || [ "$(cat "$archive.of" 2>/dev/null)" != "$of" ]; then
+    rm -f "$archive.of"
+    quietly rt staticlib vanc
+    echo "$of" >"$archive.of"
+  fi
 }
 
 need() {
