@@ -16,10 +16,11 @@ use Rattle.packing1.proofs.OpenLaws.{
   opening-none,
   opening-done,
   opening-more,
+  packet-left,
   packet-within,
   size-within,
   size-below,
-  next-is,
+  left-falls,
   refused-opens,
   refused-five,
   refused-fourteen,
@@ -83,10 +84,13 @@ module _ (j : Judged) where
 -- ---- the needs
 
 loop-holds : tie.Need-loop-holds Inv-loop μ-loop
-loop-holds c = let p = c .before .pre in opening-none _ _ _ _ (omega arith) (p .0 .0) (p .1 .0)
+loop-holds c = let p = c .before .pre in opening-none _ _ _ _ (p .0 .0) (p .1 .0)
 
 open-packet-requires : tie.Need-open-packet-requires Inv-loop μ-loop
-open-packet-requires c κs = let v = c .before .before .loop .inv in (packet-within v (c .before .loop-test .taken), v .low)
+open-packet-requires c κs =
+    let v = c .before .before .loop .inv in
+    let t = c .before .loop-test .taken in
+    (packet-within v t, packet-left v t, v .low)
 
 refusal-requires : tie.Need-refusal-requires Inv-loop μ-loop
 refusal-requires c κs = search needs
@@ -128,7 +132,7 @@ slice-read-wide c =
     let a = size-within v (goes o) (not-full h) (o .open-packet .ensures) (h .if2 .left) in
     let b = o .open-packet .ensures .within in
     let l = after-long o in
-    let m = v .room in
+    let m = v .packs .all in
     omega arith
 
 wide-requires : tie.Need-wide-requires Inv-loop μ-loop
@@ -155,7 +159,7 @@ part-fault-end c =
     let a = size-below v (goes o) (not-full h) (o .open-packet .ensures) (h .if2 .left) (c .before .wide .ensures .0) in
     let b = o .open-packet .ensures .within in
     let l = after-long o in
-    let m = v .room in
+    let m = v .packs .all in
     omega arith
 
 fault-requires : tie.Need-fault-requires Inv-loop μ-loop
@@ -187,8 +191,7 @@ loop-less : tie.Need-loop-less Inv-loop μ-loop
 loop-less c =
     let h : Whole = whole (c .before) in
     let o = opened h in
-    let n = next-is (turn o .loop .inv) (goes o) (not-full h) (o .open-packet .ensures) (h .if2 .left) in
-    omega arith
+    left-falls (turn o .loop .inv) (goes o) (not-full h) (o .open-packet .ensures) (h .if2 .left)
 
 -- one packet more
 loop-again : tie.Need-loop-again Inv-loop μ-loop
