@@ -38,22 +38,27 @@ use Rattle.packing1.proofs.open.Packet.{carried-length}
 
 -- ---- packets in front of an outcome
 
+-- packets ps, then what an outcome lists
 abbrev alsoAll : List Packet → Outcome → Outcome
 alsoAll [] o = o
 alsoAll (p ∷ ps) o = also p (alsoAll ps o)
 
+-- a refusal stays what it is
 also-refused : (ps : List Packet) (n i : ℕ) → alsoAll ps (refused n i) ≡ refused n i
 also-refused [] n i = refl
 also-refused (p ∷ ps) n i = ap (also p) (also-refused ps n i)
 
+-- before an empty list they are the list
 also-listed : (ps : List Packet) → alsoAll ps (listed []) ≡ listed ps
 also-listed [] = refl
 also-listed (p ∷ ps) = ap (also p) (also-listed ps)
 
+-- one packet more, behind them or in front of the outcome
 also-later : (xs : List Item) (x : Item) (o : Outcome) → alsoAll (packetsOf xs) (also (x .packet) o) ≡ alsoAll (packetsOf (xs ++ x ∷ [])) o
 also-later [] x o = refl
 also-later (z ∷ xs) x o = ap (also (z .packet)) (also-later xs x o)
 
+-- one item more at the end of a string
 string-later : (xs : List Item) (x : Item) → string (xs ++ x ∷ []) ≡ string xs ++ danc x
 string-later xs x = joined-append danc xs (x ∷ []) ∙ ap (λ (s : List ℕ). string xs ++ s) (append-nil (danc x))
 
@@ -80,10 +85,12 @@ prefix-cut y a b c d e n t l =
       take-take n (suc n) t (omega arith),
     )
 
+-- the same, of the bytes as `take` gives them
 prefix-whole : (y : System) (a b c d e n : ℕ) (t : List ℕ) → suc n ≤ length t
     → stringFault y (take (n + 7) (a ∷ b ∷ c ∷ d ∷ e ∷ n ∷ t)) ≡ bytesFault y (a ∷ b ∷ c ∷ d ∷ e ∷ n ∷ t)
 prefix-whole y a b c d e n t l = rw (add-seven n) (prefix-cut y a b c d e n t l)
 
+-- the same, of any bytes that are a packet long
 prefix-fault : (y : System) (s : List ℕ) → getD s 5 0 + 7 ≤ length s → stringFault y (take (getD s 5 0 + 7) s) ≡ bytesFault y s
 prefix-fault y [] h = absurd (omega arith)
 prefix-fault y (a ∷ []) h = absurd (omega arith)
@@ -95,21 +102,24 @@ prefix-fault y (a ∷ b ∷ c ∷ d ∷ e ∷ n ∷ t) h = prefix-whole y a b c 
 
 -- ---- a packet of a row of packs
 
--- the end; 5; a fault; one packet more
 module _ (y : System) (s : List Five) (k : ℕ) where
+  -- the end
   packs-ended : (left : ℕ) → packsEnd s ≡ true → packetsIn (packRow y) left k s ≡ listed []
   unfolding packRow
   packs-ended zero e = rw e
   packs-ended (suc left) e = rw e
 
+  -- "after 512 packets, not the end"
   packs-full : packsEnd s ≡ false → packetsIn (packRow y) 0 k s ≡ refused 5 k
   unfolding packRow
   packs-full e = rw e
 
+  -- a fault
   packs-fault : (left n : ℕ) → packsEnd s ≡ false → packsFault y s ≡ n → (n ≡ 0 → ⊥) → packetsIn (packRow y) (suc left) k s ≡ refused n k
   unfolding packRow
   packs-fault left n e f z = rw (e, f, ne-eqb n 0 z)
 
+  -- one packet, and the packs behind its carriers
   packs-goes : (left : ℕ) → packsEnd s ≡ false → packsFault y s ≡ 0
       → packetsIn (packRow y) (suc left) k s ≡ also (packetOfBytes (frontBytes s)) (packetsIn (packRow y) left (suc k) (afterCarriers s))
   unfolding packRow
@@ -123,6 +133,7 @@ fits-parts p ps f =
     let v = both (eqb (lead ps) (carriersFor (getD s 5 0))) (allIs 0xFF (drop (getD s 5 0 + 7) s)) (w .1) in
     (eqb-true (p .b0) 0xE1 (w .0), eqb-true (lead ps) (carriersFor (getD s 5 0)) (v .0))
 
+-- three header bytes, and four for each carrier
 front-bytes-length : (p : Five) (ps : List Five) → length (frontBytes (p ∷ ps)) ≡ 3 + 4 * lead ps
 front-bytes-length p ps =
     let k = carried-length (take (lead ps) ps) in
@@ -182,9 +193,11 @@ module _ {last : ℕ} {before us : List ℕ} {total fill r w k : ℕ} (v : Openi
   abbrev left : List Five
   left = packsAt before r total
 
+  -- they stand in the bytes as they were
   left-us : packsAt us r total ≡ left
   left-us = kept-packs us before r (v .kept) r total (omega arith)
 
+  -- the first w bytes are there
   front-long : length (take w us) ≡ w
   front-long =
       let a = v .low in
@@ -198,18 +211,21 @@ module _ {last : ℕ} {before us : List ℕ} {total fill r w k : ℕ} (v : Openi
       → packetsFrom y (packsAt before 0 total) ≡ alsoAll (packetsOf (v .done y e .items)) o
   whole-is y e o q = v .done y e .rest ∙ ap (alsoAll (packetsOf (v .done y e .items))) q
 
+  -- a refusal of packet k is the whole outcome
   refused-is : (y : System) → y .last ≡ last → (n : ℕ) → packetsIn (packRow y) (limit - k) k left ≡ refused n k
       → packetsFrom y (packsAt before 0 total) ≡ refused n k
   refused-is y e n q = whole-is y e (refused n k) q ∙ also-refused (packetsOf (v .done y e .items)) n k
 
   -- the end
   module _ (stops : fill ≤ r) (ends : packsEnd (packsAt before fill total) ≡ true) where
+    -- what is left is fill
     left-ends : packsEnd left ≡ true
     left-ends =
         let b = v .before-fill in
         let e : r ≡ fill = omega arith in
         ap (λ (a : ℕ). packsEnd (packsAt before a total)) e ∙ ends
 
+    -- how many packets there are and where their string ends, which stands in front
     pub opening-done : (y : System) → y .last ≡ last → Opens y (packetsFrom y (packsAt before 0 total)) (k + base * w) us
     opening-done y e =
         let d = v .done y e in
@@ -234,6 +250,7 @@ module _ {last : ℕ} {before us : List ℕ} {total fill r w k : ℕ} (v : Openi
 
   -- one packet more
   module _ (goes : r < fill) where
+    -- fill begins within the packs
     fill-within : fill ≤ total
     fill-within =
         let b = v .before-fill in
@@ -245,6 +262,7 @@ module _ {last : ℕ} {before us : List ℕ} {total fill r w k : ℕ} (v : Openi
     pub packet-left : r < total
     packet-left = let f = fill-within in omega arith
 
+    -- the packs left are whole, in the bytes as they are now
     pub packet-within : Within us r total
     packet-within =
         let p = v .packs in
@@ -252,18 +270,22 @@ module _ {last : ℕ} {before us : List ℕ} {total fill r w k : ℕ} (v : Openi
         let l = v .long in
         record { reach = p .reach; all = omega arith; whole = p .whole }
 
+    -- before fill is no end
     left-goes : packsEnd left ≡ false
     left-goes = let b = v .before-fill in used-goes left (omega arith)
 
+    -- packet k is one too many
     pub refused-five : k ≡ limit → (y : System) → y .last ≡ last → packetsFrom y (packsAt before 0 total) ≡ refused 5 k
     refused-five q y e =
         let z : limit - k ≡ 0 = omega arith in
         refused-is y e 5 (ap (λ (n : ℕ). packetsIn (packRow y) n k left) z ∙ packs-full y left k left-goes)
 
     module _ (few : k ≡ limit → ⊥) where
+      -- below the limit one packet more may come
       more : limit - k ≡ suc (limit - (k + 1))
       more = let f = v .few in omega arith
 
+      -- packet k has a fault
       refused-fault : (n : ℕ) → (n ≡ 0 → ⊥) → (y : System) → y .last ≡ last → packsFault y left ≡ n
           → packetsFrom y (packsAt before 0 total) ≡ refused n k
       refused-fault n z y e f =
@@ -271,32 +293,40 @@ module _ {last : ℕ} {before us : List ℕ} {total fill r w k : ℕ} (v : Openi
 
       -- after the packet was opened
       module _ {after : List ℕ} {next : ℕ} (o : PacketOpened us after r total w next) where
+        -- its packs do not pass 14
         pub refused-fourteen : next ≡ 0 → (y : System) → y .last ≡ last → packetsFrom y (packsAt before 0 total) ≡ refused 14 k
         refused-fourteen q y e =
             let f : fits left ≡ false = ap fits (sym left-us) ∙ o .shut q in
             refused-fault 14 (λ z. omega arith) y e (fault-is y left ∙ ap (λ (b : Bool). cond b (bytesFault y (frontBytes left)) 14) f)
 
         module _ (z : next ≡ 0 → ⊥) where
+          -- they do: the bytes in its packs
           abbrev bytes : List ℕ
           bytes = frontBytes left
 
+          -- DC among them
           abbrev size : ℕ
           size = getD bytes 5 0
 
+          -- the packs behind its starter
           abbrev later : List Five
           later = packsAt before (r + 5) total
 
+          -- 14 is passed
           left-fits : fits left ≡ true
           left-fits = ap fits (sym left-us) ∙ o .passes z
 
+          -- the starter is the first pack left
           left-is : left ≡ packAt before r ∷ later
           left-is = first-pack (v .packs) packet-left
 
+          -- it is one, and has as many carriers as DC needs
           parts : (getD before r 0 ≡ 0xE1) × (lead later ≡ carriersFor size)
           parts =
               let q = fits-parts (packAt before r) later (ap fits (sym left-is) ∙ left-fits) in
               (q .0, q .1 ∙ ap (λ (s : List Five). carriersFor (getD (frontBytes s) 5 0)) (sym left-is))
 
+          -- where its packs end
           next-is : next ≡ r + 5 + 5 * lead later
           next-is =
               let q = o .place z ∙ ap (λ (s : List Five). r + 10 + (getD (frontBytes s) 5 0 + 3) / 4 * 5) left-us in
@@ -307,21 +337,26 @@ module _ {last : ℕ} {before us : List ℕ} {total fill r w k : ℕ} (v : Openi
           pub left-falls : fill - next < fill - r
           left-falls = let n = next-is in fewer fill r next goes (omega arith)
 
+          -- how many bytes they carry
           bytes-length : length bytes ≡ 3 + 4 * lead later
           bytes-length = ap (λ (s : List Five). length (frontBytes s)) left-is ∙ front-bytes-length (packAt before r) later
 
+          -- no fewer than the packet has
           bytes-long : size + 7 ≤ length bytes
           bytes-long = let a = bytes-length in let l = parts .1 in omega arith
 
+          -- the packs behind its carriers
           behind-is : packsAt before next total ≡ drop (lead later) later
           behind-is =
               let i = o .within in
               let n = next-is in
               ap (λ (a : ℕ). packsAt before a total) n ∙ sym (packs-drop (lead later) before (r + 5) total (omega arith) (v .packs .all))
 
+          -- are the packs from the next place on
           after-is : afterCarriers left ≡ packsAt before next total
           after-is = ap afterCarriers left-is ∙ sym behind-is
 
+          -- fill begins at the same place
           used-is : next + 5 * used (packsAt before next total) ≡ fill
           used-is =
               let b = v .before-fill in
@@ -331,15 +366,19 @@ module _ {last : ℕ} {before us : List ℕ} {total fill r w k : ℕ} (v : Openi
               let d = ap used behind-is in
               omega arith
 
+          -- its bytes stand behind the string so far
           moved-laid : take (w + length bytes) after ≡ take w us ++ bytes
           moved-laid = rw left-us at (o .moved z .laid)
 
+          -- so does DC
           size-is : getD after (w + 5) 0 ≡ size
           size-is = let l = bytes-long in window-at after (take w us) bytes w front-long moved-laid 5 (omega arith)
 
+          -- the packet ends before its packs do
           pub size-within : w + size + 7 ≤ next
           size-within = let a = v .low in let n = next-is in let l = parts .1 in omega arith
 
+          -- the bytes that are judged are the packet's
           part-is : take (w + size + 7 - w) (drop w after) ≡ take (size + 7) bytes
           part-is =
               let a : w + size + 7 - w ≡ size + 7 - 0 = omega arith in
@@ -349,17 +388,21 @@ module _ {last : ℕ} {before us : List ℕ} {total fill r w k : ℕ} (v : Openi
 
           -- what the packet's bytes have for a fault, the packs have
           module _ (n : ℕ) (q : (y : System) → y .last ≡ last → n ≡ stringFault y (take (w + size + 7 - w) (drop w after))) where
+            -- the fault that was found is that of the bytes
             bytes-fault : (y : System) → y .last ≡ last → bytesFault y bytes ≡ n
             bytes-fault y e = sym (q y e ∙ ap (stringFault y) part-is ∙ prefix-fault y bytes bytes-long)
 
+            -- and so that of the packs
             left-fault : (y : System) → y .last ≡ last → packsFault y left ≡ n
             left-fault y e = fault-is y left ∙ ap (λ (b : Bool). cond b (bytesFault y bytes) 14) left-fits ∙ bytes-fault y e
 
+            -- 15, 16
             pub refused-bytes : (n ≡ 0 → ⊥) → (y : System) → y .last ≡ last → packetsFrom y (packsAt before 0 total) ≡ refused n k
             refused-bytes m y e = refused-fault n m y e (left-fault y e)
 
             -- without a fault they are an item's
             module _ (fine : n ≡ 0) (known : Bytes after) where
+              -- they are bytes, as all are
               bytes-known : Bytes bytes
               bytes-known =
                   let a : length bytes ≡ length bytes - 0 = omega arith in
@@ -370,9 +413,11 @@ module _ {last : ℕ} {before us : List ℕ} {total fill r w k : ℕ} (v : Openi
                   ∙ take-length bytes in
                   subst Bytes p (take-bytes (length bytes) (drop w after) (drop-bytes w after known))
 
+              -- the item that they are
               abbrev item : Item
               item = itemOf 0 bytes
 
+              -- its bytes and its packet are good
               item-is : (y : System) → y .last ≡ last → (take (size + 7) bytes ≡ danc item) × Good y item
               item-is y e =
                   let l = bytes-laid y bytes 0 (omega arith) bytes-known bytes-long (bytes-fault y e ∙ fine) in
@@ -382,6 +427,7 @@ module _ {last : ℕ} {before us : List ℕ} {total fill r w k : ℕ} (v : Openi
                   let d : length (danc item) ≡ size + 7 = danc-length item ∙ ap (λ (m : ℕ). m + 7) c in
                   (ap (take (size + 7)) (l .0) ∙ take-at (danc item) (drop (size + 7) bytes) (size + 7) d, l .1)
 
+              -- it is one more of the packets done
               done-more : (y : System) → y .last ≡ last → Done y before after total next (w + size + 7) (k + 1)
               done-more y e =
                   let d = v .done y e in
@@ -406,6 +452,7 @@ module _ {last : ℕ} {before us : List ℕ} {total fill r w k : ℕ} (v : Openi
                         (sym (add-one k)) after-is;
                   }
 
+              -- and the next packet may be opened
               opening-next : length after ≡ length us → Opening last before after total fill next (w + size + 7) (k + 1)
               opening-next l =
                   let a = v .few in
@@ -424,16 +471,20 @@ module _ {last : ℕ} {before us : List ℕ} {total fill r w k : ℕ} (v : Openi
 
           -- the same, where d is DC as it is read after the packet was opened, and n the fault of the bytes
           module _ {d : ℕ} (e : d ≡ getD after (w + 5) 0) where
+            -- the packet ends before its packs do
             pub size-below : w + d + 7 ≤ next
             size-below = let a = size-within in let b = e ∙ size-is in omega arith
 
             module _ {n : ℕ} (q : (y : System) → y .last ≡ last → n ≡ stringFault y (take (w + d + 7 - w) (drop w after))) where
+              -- the fault of the bytes, as it was found
               same-fault : (y : System) → y .last ≡ last → n ≡ stringFault y (take (w + size + 7 - w) (drop w after))
               same-fault y f = q y f ∙ ap (λ (m : ℕ). stringFault y (take (w + m + 7 - w) (drop w after))) (e ∙ size-is)
 
+              -- 15, 16, as they were found
               pub refused-other : (n ≡ 0 → ⊥) → (y : System) → y .last ≡ last → packetsFrom y (packsAt before 0 total) ≡ refused n k
               refused-other m = refused-bytes n same-fault m
 
+              -- one packet more
               pub opening-more : n ≡ 0 → Bytes after → length after ≡ length us
                   → Opening last before after total fill next (w + d + 7) (k + 1)
               opening-more f b l = rw (e ∙ size-is) (opening-next n same-fault f b l)
@@ -445,42 +496,51 @@ fault-below {last} {n} s q = is-small (lastOnly last) s n (q (lastOnly last) ref
 -- ---- all of it
 
 module _ (us : List ℕ) (total : ℕ) where
+  -- all packs
   abbrev packs : List Five
   packs = packsAt us 0 total
 
+  -- the packs from place 0 on are all of them
   packs-all : packs ≡ fives (take total us)
   packs-all = let e : total - 0 ≡ total = omega arith in ap (λ (n : ℕ). fives (take n us)) e
 
   -- t: these are whole packs
   module _ {t : Bool} (w : t ≡ (leb total (length us) && eqb (total % 5) 0)) where
+    -- 13: they are not
     pub refused-whole : t ≡ false → (y : System) → packetsOfFives y us total ≡ refused 13 0
     unfolding packetsOfFives
     refused-whole e y = rw (sym w ∙ e)
 
     module _ (e : t ≡ true) where
+      -- they are
       pub whole-packs : Within us 0 total
       whole-packs =
           let q = both (leb total (length us)) (eqb (total % 5) 0) (sym w ∙ e) in
           let m = eqb-true (total % 5) 0 (q .1) in
           record { reach = omega arith; all = leb-true total (length us) (q .0); whole = omega arith }
 
+      -- then the order decides
       in-order : (y : System) (o : Bool) → inOrder false packs ≡ o → packetsOfFives y us total ≡ unless 13 o (packetsFrom y packs)
       unfolding packetsOfFives
       in-order y o q = rw (sym w ∙ e, sym packs-all, q)
 
       -- the answer of the two readers
       module _ {fill : ℕ} (f : fill ≡ orderFrom false 0 packs) where
+        -- 13: the order is wrong
         pub refused-order : fill ≡ 1 → (y : System) → packetsOfFives y us total ≡ refused 13 0
         refused-order g y = in-order y false (order-one packs (sym f ∙ g))
 
         -- packs in order
         module _ (g : fill ≡ 1 → ⊥) where
+          -- what the answer says of them
           place-is : (inOrder false packs ≡ true) × (orderFrom false 0 packs ≡ 5 * used packs)
           place-is = order-place packs (λ q. g (f ∙ q))
 
+          -- fill begins behind the starters and carriers
           pub fill-is : fill ≡ 5 * used packs
           fill-is = f ∙ place-is .1
 
+          -- and is the end
           pub fill-ends : packsEnd (packsAt us fill total) ≡ true
           fill-ends =
               let u = used-within packs in
@@ -491,6 +551,7 @@ module _ (us : List ℕ) (total : ℕ) where
               ∙ ap packsEnd (sym (packs-drop (used packs) us 0 total (omega arith) (whole-packs .all)))
               ∙ order-ends false packs (place-is .0)
 
+          -- so what their packets give is the outcome
           pub opens-all : {y : System} {r : ℕ} {after : List ℕ} → Opens y (packetsFrom y packs) r after
               → Opens y (packetsOfFives y us total) r after
           opens-all {y} o = rw (in-order y true (place-is .0)) o

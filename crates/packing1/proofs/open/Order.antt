@@ -26,14 +26,17 @@ module _ (p : Five) (ps : List Five) (at r : ℕ) where
   one-more true e = omega arith
   one-more false e = e
 
+  -- a carrier, which may stand anywhere
   on-carrier : p .b0 ≡ 0xE2 → r ≡ orderFrom false (at + 5) ps → r ≡ orderFrom false at (p ∷ ps)
   unfolding orderFrom inOrder
   on-carrier e q = rw e (one-more (inOrder false ps) q)
 
+  -- a starter, behind which a carrier has to follow
   on-starter : p .b0 ≡ 0xE1 → r ≡ orderFrom true (at + 5) ps → r ≡ orderFrom false at (p ∷ ps)
   unfolding orderFrom inOrder
   on-starter e q = rw e (one-more (inOrder true ps) q)
 
+  -- that carrier
   after-starter : p .b0 ≡ 0xE2 → r ≡ orderFrom false (at + 5) ps → r ≡ orderFrom true at (p ∷ ps)
   unfolding orderFrom inOrder
   after-starter e q = rw e (one-more (inOrder false ps) q)
@@ -43,6 +46,7 @@ module _ (p : Five) (ps : List Five) (at r : ℕ) where
   unfolding orderFrom inOrder
   on-other n m = rw (ne-eqb (p .b0) 0xE1 m, ne-eqb (p .b0) 0xE2 n)
 
+  -- or none
   after-other : (p .b0 ≡ 0xE2 → ⊥) → 1 ≡ orderFrom true at (p ∷ ps)
   unfolding orderFrom inOrder
   after-other n = rw (ne-eqb (p .b0) 0xE2 n)
@@ -51,22 +55,27 @@ module _ (p : Five) (ps : List Five) (at r : ℕ) where
 
 -- no pack is left: behind a starter one is missing
 module _ (us : List ℕ) (at total : ℕ) (e : at ≡ total) where
+  -- fill begins here
   pub order-end : at ≡ orderFrom false at (packsAt us at total)
   unfolding orderFrom inOrder
   order-end = rw (packs-none us at total (omega arith)) (omega arith)
 
+  -- the order is wrong
   pub order-short : 1 ≡ orderFrom true at (packsAt us at total)
   unfolding orderFrom inOrder
   order-short = rw (packs-none us at total (omega arith))
 
 -- a pack is left
 module _ {us : List ℕ} {at total : ℕ} (w : Within us at total) (h : at < total) where
+  -- the packs behind it
   abbrev behind : List Five
   behind = packsAt us (at + 5) total
 
+  -- it is a carrier
   pub order-carrier : {r : ℕ} → getD us at 0 ≡ 0xE2 → r ≡ orderFrom false (at + 5) behind → r ≡ orderFrom false at (packsAt us at total)
   order-carrier {r} e q = rw (first-pack w h) (on-carrier (packAt us at) behind at r e q)
 
+  -- it is a starter
   pub order-starter : {r : ℕ} → getD us at 0 ≡ 0xE1 → r ≡ orderFrom true (at + 5) behind → r ≡ orderFrom false at (packsAt us at total)
   order-starter {r} e q = rw (first-pack w h) (on-starter (packAt us at) behind at r e q)
 
@@ -74,10 +83,12 @@ module _ {us : List ℕ} {at total : ℕ} (w : Within us at total) (h : at < tot
   pub order-second : {r : ℕ} → getD us at 0 ≡ 0xE2 → r ≡ orderFrom false (at + 5) behind → r ≡ orderFrom true at (packsAt us at total)
   order-second {r} e q = rw (first-pack w h) (after-starter (packAt us at) behind at r e q)
 
+  -- anything else behind a starter
   pub order-no-carrier : (getD us at 0 ≡ 0xE2 → ⊥) → 1 ≡ orderFrom true at (packsAt us at total)
   order-no-carrier n = rw (first-pack w h) (after-other (packAt us at) behind at 1 n)
 
   module _ (n : getD us at 0 ≡ 0xE2 → ⊥) (o : getD us at 0 ≡ 0xE1 → ⊥) where
+    -- neither: the bytes left decide
     rest-is : orderFrom false at (packsAt us at total) ≡ cond (allIs 0xFF (take (total - at) (drop at us))) (at + 5 * 0) 1
     rest-is =
         let k = first-pack w h in
@@ -85,17 +96,21 @@ module _ {us : List ℕ} {at total : ℕ} (w : Within us at total) (h : at < tot
         ∙ on-other (packAt us at) behind at 1 n o
         ∙ ap (λ (s : List ℕ). cond (allIs 0xFF s) (at + 5 * 0) 1) (ap flat (sym k) ∙ packs-flat w)
 
+    -- all are FFh
     pub order-fill : allIs 0xFF (take (total - at) (drop at us)) ≡ true → at ≡ orderFrom false at (packsAt us at total)
     order-fill e = let z : at ≡ at + 5 * 0 = omega arith in z ∙ sym (rest-is ∙ ap (λ (b : Bool). cond b (at + 5 * 0) 1) e)
 
+    -- one is not
     pub order-wrong : allIs 0xFF (take (total - at) (drop at us)) ≡ false → 1 ≡ orderFrom false at (packsAt us at total)
     order-wrong e = sym (rest-is ∙ ap (λ (b : Bool). cond b (at + 5 * 0) 1) e)
 
 -- ---- carriers passed one by one
 
+-- none is passed yet
 pub passed-none : {us : List ℕ} {at total : ℕ} → Within us at total → SameOrder us at total at
 passed-none w = record { reach = omega arith; packs = w; same = refl }
 
+-- one more is passed
 pub passed-more : {us : List ℕ} {at total end : ℕ} → SameOrder us at total end → end < total → getD us end 0 ≡ 0xE2
     → SameOrder us at total (end + 5)
 passed-more v h e =
@@ -104,6 +119,7 @@ passed-more v h e =
 
 -- ---- starters and carriers before fill
 
+-- no more than there are packs
 pub used-within : (ps : List Five) → used ps ≤ length ps
 used-within [] = omega arith
 used-within (p ∷ ps) = go (eqb (p .b0) 0xE1 || eqb (p .b0) 0xE2) (used-within ps)
@@ -164,6 +180,7 @@ order-one ps e = go (inOrder false ps) e
     go true e = absurd (omega arith)
     go false e = refl
 
+-- any other answer is where fill begins
 pub order-place : (ps : List Five) → (orderFrom false 0 ps ≡ 1 → ⊥) → (inOrder false ps ≡ true) × (orderFrom false 0 ps ≡ 5 * used ps)
 unfolding orderFrom
 order-place ps n = go (inOrder false ps) n

@@ -51,15 +51,18 @@ lead-not (suc n) (p ∷ ps) a e = go (λ b. lead-not n ps b) (eqb (p .b0) 0xE2) 
     go h true a e = h a (omega arith)
     go h false a e = omega arith
 
+-- four bytes in each carrier
 pub carried-length : (ps : List Five) → length (carried ps) ≡ 4 * length ps
 carried-length [] = refl
 carried-length (p ∷ ps) = let k = carried-length ps in omega arith
 
 -- whether a carrier stands at a place
 module _ {us : List ℕ} {at end : ℕ} (w : Within us at end) (h : at < end) where
+  -- none does
   lead-none : (getD us at 0 ≡ 0xE2 → ⊥) → lead (packsAt us at end) ≡ 0
   lead-none n = rw (first-pack w h, ne-eqb (getD us at 0) 0xE2 n)
 
+  -- one does
   lead-some : getD us at 0 ≡ 0xE2 → lead (packsAt us at end) ≡ 0 → ⊥
   lead-some e z =
       let k : lead (packsAt us at end) ≡ suc (lead (packsAt us (at + 5) end)) = rw (first-pack w h, e) refl in
@@ -89,9 +92,11 @@ ends-not f =
     }
 
 module _ {us : List ℕ} {at total : ℕ} (w : Within us at total) where
+  -- the pack is no starter
   pub no-starter : at < total → (getD us at 0 ≡ 0xE1 → ⊥) → PacksEnd us at total 0
   no-starter h n = ends-not (rw (first-pack w h, ne-eqb (getD us at 0) 0xE1 n))
 
+  -- no pack is behind it
   pub no-carrier : at < total → total < at + 10 → PacksEnd us at total 0
   no-carrier h l =
       let m = w .whole in
@@ -100,6 +105,7 @@ module _ {us : List ℕ} {at total : ℕ} (w : Within us at total) where
 
   -- d is DC
   module _ {d : ℕ} (e : d ≡ getD us (at + 8) 0) (h : at + 10 ≤ total) where
+    -- where the carriers end that DC needs
     abbrev stop : ℕ
     stop = at + 10 + (d + 3) / 4 * 5
 
@@ -107,9 +113,11 @@ module _ {us : List ℕ} {at total : ℕ} (w : Within us at total) where
     abbrev behind : List Five
     behind = packsAt us (at + 5) total
 
+    -- they are whole
     within-behind : Within us (at + 5) total
     within-behind = behind-first w (omega arith)
 
+    -- other than as many carriers as DC needs
     not-as-many : (lead behind ≡ carriersFor d → ⊥) → fits (packsAt us at total) ≡ false
     not-as-many n =
         let i : at + 5 + 3 ≡ at + 8 = omega arith in
@@ -120,6 +128,7 @@ module _ {us : List ℕ} {at total : ℕ} (w : Within us at total) where
         (fit-not (packAt us at) (packAt us (at + 5)) (packsAt us (at + 5 + 5) total)
         (λ z. n (ap lead c ∙ z ∙ ap carriersFor (sym k)))))
 
+    -- there is no room for as many
     pub too-few : total < stop → PacksEnd us at total 0
     too-few l =
         let k = packs-length within-behind in
@@ -127,6 +136,7 @@ module _ {us : List ℕ} {at total : ℕ} (w : Within us at total) where
 
     -- the carriers that DC needs have room
     module _ (l : stop ≤ total) where
+      -- the packs from there on are whole
       within-stop : Within us stop total
       within-stop = let m = w .whole in record { reach = l; all = w .all; whole = omega arith }
 
@@ -136,6 +146,7 @@ module _ {us : List ℕ} {at total : ℕ} (w : Within us at total) where
           let k : at + 5 + 5 * carriersFor d ≡ stop = omega arith in
           packs-drop (carriersFor d) us (at + 5) total (omega arith) (w .all) ∙ ap (λ (a : ℕ). packsAt us a total) k
 
+      -- one more carrier stands there
       pub too-many : stop < total → getD us stop 0 ≡ 0xE2 → PacksEnd us at total 0
       too-many m t =
           ends-not
@@ -145,6 +156,7 @@ module _ {us : List ℕ} {at total : ℕ} (w : Within us at total) where
 
       -- no carrier stands behind them
       module _ (s : getD us at 0 ≡ 0xE1) where
+        -- the packet's packs end there
         ends-at : lead (packsAt us stop total) ≡ 0 → PacksEnd us at total stop
         ends-at b =
             record {
@@ -155,9 +167,11 @@ module _ {us : List ℕ} {at total : ℕ} (w : Within us at total) where
               ends = λ z. b;
             }
 
+        -- another pack stands there
         pub ends-before : stop < total → (getD us stop 0 ≡ 0xE2 → ⊥) → PacksEnd us at total stop
         ends-before m n = ends-at (lead-none within-stop m n)
 
+        -- no pack stands there
         pub ends-last : total ≤ stop → PacksEnd us at total stop
         ends-last m = ends-at (ap lead (packs-none us stop total m))
 
@@ -183,20 +197,25 @@ carry-none w h = record { start = omega arith; low = h; packs = w; long = refl; 
 
 module _ {before us : List ℕ} {from stop to f o : ℕ} (v : Carrying before us from stop to f o) where
   module _ (goes : f < stop) where
+    -- the carrier, and the packs behind it
     front-is : packsAt us f stop ≡ packAt us f ∷ packsAt us (f + 5) stop
     front-is = first-pack (v .packs) goes
 
+    -- the bytes with its four stored at o
     abbrev next : List ℕ
     next = sets us o (fourAt us f)
 
+    -- as many as before
     next-long : length next ≡ length us
     next-long = length-sets us o (fourAt us f)
 
+    -- the packs behind it are as they were
     rest-kept : packsAt next (f + 5) stop ≡ packsAt us (f + 5) stop
     rest-kept =
         let l = v .low in
         kept-packs next us (f + 5) (sets-behind us o (fourAt us f) (f + 5) (omega arith)) (f + 5) stop (omega arith)
 
+    -- so one carrier more is opened
     four-more : getD us f 0 ≡ 0xE2 → Carrying before next from stop to (f + 5) (o + 4)
     four-more e =
         let a = v .start in
@@ -231,9 +250,11 @@ module _ {before us : List ℕ} {from stop to f o : ℕ} (v : Carrying before us
 
   -- all of them
   module _ (done : stop ≤ f) where
+    -- nothing is left to be stored
     all-laid : take o us ≡ take to before ++ carried (packsAt before from stop)
     all-laid = sym (append-nil (take o us)) ∙ (rw (packs-none us f stop done) at (v .laid))
 
+    -- so all was moved
     pub carry-done : CarriersOpened before us from stop to true
     carry-done =
         let s = v .start in
@@ -252,23 +273,28 @@ module _ {before us : List ℕ} {from stop to f o : ℕ} (v : Carrying before us
 
 -- ---- a packet opened
 
--- the header bytes in the starter at a place, and the bytes after they were stored
+-- the header bytes in the starter at a place
 abbrev headAt : List ℕ → ℕ → List ℕ
 headAt us at = getD us (at + 2) 0 ∷ getD us (at + 3) 0 ∷ getD us (at + 4) 0 ∷ []
 
+-- the bytes after these were stored, one by one
 abbrev pub headed : List ℕ → ℕ → ℕ → List ℕ
 headed us at to = set (set (set us to (getD us (at + 2) 0)) (to + 1) (getD us (at + 3) 0)) (to + 2) (getD us (at + 4) 0)
 
 module _ (us : List ℕ) (at to : ℕ) where
+  -- the stores as one
   headed-is : headed us at to ≡ sets us to (headAt us at)
   headed-is = rw (add-one to, add-two to)
 
+  -- as many bytes as before
   pub headed-length : length (headed us at to) ≡ length us
   headed-length = ap length headed-is ∙ length-sets us to (headAt us at)
 
+  -- the header bytes stand at their place
   headed-front : to + 3 ≤ length us → take (to + 3) (headed us at to) ≡ take to us ++ headAt us at
   headed-front h = ap (take (to + 3)) headed-is ∙ sets-front us to (headAt us at) h
 
+  -- and nothing behind them has changed
   headed-behind : (n : ℕ) → to + 3 ≤ n → drop n (headed us at to) ≡ drop n us
   headed-behind n h = ap (drop n) headed-is ∙ sets-behind us to (headAt us at) n h
 
@@ -289,41 +315,50 @@ packet-not f =
     }
 
 module _ {us : List ℕ} {at total stop : ℕ} (w : Within us at total) (e : PacksEnd us at total stop) (z : stop ≡ 0 → ⊥) where
-  -- DC, and the carriers that it needs
+  -- DC
   abbrev dc : ℕ
   dc = getD us (at + 8) 0
 
+  -- the carriers that it needs
   abbrev need : ℕ
   need = carriersFor dc
 
-  -- the packs behind the starter, and those of them that are to be carriers
+  -- the packs behind the starter
   abbrev ps : List Five
   ps = packsAt us (at + 5) total
 
+  -- those of them that are to be carriers
   abbrev cs : List Five
   cs = packsAt us (at + 5) stop
 
+  -- where the packs end, by DC
   pub stop-is : stop ≡ at + 5 + 5 * need
   stop-is = let p = e .place z in omega arith
 
+  -- that is within the bytes
   pub stop-within : stop ≤ length us
   stop-within = let i = e .within in let a = w .all in omega arith
 
+  -- the packs behind the starter are whole
   within-ps : Within us (at + 5) total
   within-ps = let p = stop-is in let i = e .within in behind-first w (omega arith)
 
+  -- and so are those to be carriers
   within-cs : Within us (at + 5) stop
   within-cs = let p = stop-is in record { reach = omega arith; all = stop-within; whole = omega arith }
 
+  -- which are as many as DC needs
   cs-length : length cs ≡ need
   cs-length = let p = stop-is in let k = packs-length within-cs in omega arith
 
+  -- the first of the packs behind the starter
   take-is : take need ps ≡ cs
   take-is =
       let p = stop-is in
       let i = e .within in
       packs-take need us (at + 5) total (omega arith) (w .all) ∙ ap (packsAt us (at + 5)) (sym p)
 
+  -- and the packs behind them
   drop-is : drop need ps ≡ packsAt us stop total
   drop-is =
       let p = stop-is in
@@ -345,9 +380,11 @@ module _ {us : List ℕ} {at total stop : ℕ} (w : Within us at total) (e : Pac
   abbrev front : List ℕ
   front = getD us (at + 2) 0 ∷ getD us (at + 3) 0 ∷ getD us (at + 4) 0 ∷ carried cs
 
+  -- how many bytes these are
   front-length : length front ≡ 3 + 4 * need
   front-length = let k = carried-length cs in let l = cs-length in omega arith
 
+  -- DC is the sixth of them
   dc-is : getD front 5 0 ≡ dc
   dc-is =
       let p = stop-is in
@@ -356,6 +393,7 @@ module _ {us : List ℕ} {at total stop : ℕ} (w : Within us at total) (e : Pac
 
   -- all between are carriers: these bytes are the packet's, and what is left of 14 is the test of the unused ones
   module _ (a : allCarriers cs ≡ true) where
+    -- the carriers are as many as DC needs
     many : lead ps ≡ need
     many =
         let p = stop-is in
@@ -363,17 +401,20 @@ module _ {us : List ℕ} {at total stop : ℕ} (w : Within us at total) (e : Pac
         let k = packs-length within-ps in
         lead-is need ps (omega arith) (ap allCarriers take-is ∙ a) (ap lead drop-is ∙ e .ends z)
 
+    -- so the bytes are the packet's
     front-bytes : frontBytes (packsAt us at total) ≡ front
     front-bytes =
         ap frontBytes starter-is
         ∙ ap (λ (s : List Five). getD us (at + 2) 0 ∷ getD us (at + 3) 0 ∷ getD us (at + 4) 0 ∷ carried s)
         (ap (λ (k : ℕ). take k ps) many ∙ take-is)
 
+    -- and 14 is the test of those past its end
     fits-front : fits (packsAt us at total) ≡ allIs 0xFF (drop (dc + 7) front)
     fits-front = ap fits starter-is ∙ fits-is (packAt us at) ps front dc (e .starts z) (ap frontBytes (sym starter-is) ∙ front-bytes) dc-is many
 
   -- the header bytes were stored
   module _ {to : ℕ} (low : to ≤ at) where
+    -- the packs to be carriers are whole, with the header bytes stored
     pub carriers-within : Within (headed us at to) (at + 5) stop
     carriers-within =
         let l = headed-length us at to in
@@ -382,18 +423,22 @@ module _ {us : List ℕ} {at total stop : ℕ} (w : Within us at total) (e : Pac
         let a = c .all in
         record { reach = r; all = omega arith; whole = c .whole }
 
+    -- and are as they were
     cs-kept : packsAt (headed us at to) (at + 5) stop ≡ cs
     cs-kept = kept-packs (headed us at to) us (at + 5) (headed-behind us at to (at + 5) (omega arith)) (at + 5) stop (omega arith)
 
     -- and the carriers were opened
     module _ {after : List ℕ} {r : Bool} (v : CarriersOpened (headed us at to) after (at + 5) stop (to + 3) r) where
+      -- whether they are carriers is told
       carriers-are : (t : Bool) → r ≡ t → allCarriers cs ≡ t
       carriers-are t f = ap allCarriers (sym cs-kept) ∙ sym (v .carriers) ∙ f
 
+      -- 14: one is not
       pub opened-shut : r ≡ false → PacketOpened us after at total to 0
       opened-shut f = packet-not (carriers-shut (carriers-are false f))
 
       module _ (y : r ≡ true) where
+        -- they are: the bytes were moved
         opened-moved : Moved us after to front stop
         opened-moved =
             let p = stop-is in
@@ -413,9 +458,11 @@ module _ {us : List ℕ} {at total stop : ℕ} (w : Within us at total) (e : Pac
 
         -- d is DC as it was read
         module _ {d : ℕ} (q : d ≡ dc) where
+          -- the bytes that are tested
           abbrev unused : List ℕ
           unused = take (to + (d + 3) / 4 * 4 + 7 - (to + d + 7)) (drop (to + d + 7) after)
 
+          -- these are the unused ones
           unused-is : unused ≡ drop (dc + 7) front
           unused-is =
               let i = stop-within in
@@ -428,12 +475,15 @@ module _ {us : List ℕ} {at total stop : ℕ} (w : Within us at total) (e : Pac
               (window-part after (take to us) front to t (opened-moved .laid) (dc + 7) (length front) (omega arith)
               ∙ ap (drop (dc + 7)) (take-length front))
 
+          -- so their test is 14
           fits-unused : fits (packsAt us at total) ≡ allIs 0xFF unused
           fits-unused = fits-front (carriers-are true y) ∙ ap (allIs 0xFF) (sym unused-is)
 
+          -- 14: one of them is not FFh
           pub packet-shut : allIs 0xFF unused ≡ false → PacketOpened us after at total to 0
           packet-shut f = packet-not (fits-unused ∙ f)
 
+          -- all are FFh, and the packet is moved
           pub packet-opened : allIs 0xFF unused ≡ true → PacketOpened us after at total to stop
           packet-opened f =
               let g = front-bytes (carriers-are true y) in

@@ -79,10 +79,11 @@ packs-cons us at end h l =
     let e : end - at ≡ suc (suc (suc (suc (suc (end - (at + 5)))))) = omega arith in
     rw (e, front-five us at (omega arith))
 
+-- no bytes, no packs
 pub packs-none : (us : List ℕ) (at end : ℕ) → end ≤ at → packsAt us at end ≡ []
 packs-none us at end h = let e : end - at ≡ 0 = omega arith in rw e
 
--- n packs left out, and n packs alone
+-- the packs behind n
 pub packs-drop : (n : ℕ) (us : List ℕ) (at end : ℕ) → at + 5 * n ≤ end → end ≤ length us
     → drop n (packsAt us at end) ≡ packsAt us (at + 5 * n) end
 packs-drop zero us at end h l = let e : at ≡ at + 5 * 0 = omega arith in ap (λ (a : ℕ). packsAt us a end) e
@@ -91,6 +92,7 @@ packs-drop (suc n) us at end h l =
     ap (drop (suc n)) (packs-cons us at end (omega arith) l) ∙ packs-drop n us (at + 5) end (omega arith) l
     ∙ ap (λ (a : ℕ). packsAt us a end) e
 
+-- the first n packs
 pub packs-take : (n : ℕ) (us : List ℕ) (at end : ℕ) → at + 5 * n ≤ end → end ≤ length us
     → take n (packsAt us at end) ≡ packsAt us at (at + 5 * n)
 packs-take zero us at end h l = sym (packs-none us at (at + 5 * 0) (omega arith))
@@ -103,6 +105,7 @@ packs-take (suc n) us at end h l =
 -- ---- whole packs
 
 module _ {us : List ℕ} {at end : ℕ} (w : Within us at end) where
+  -- their bytes are there
   bytes-long : length (take (end - at) (drop at us)) ≡ end - at
   bytes-long =
       let a = w .all in
@@ -116,17 +119,21 @@ module _ {us : List ℕ} {at end : ℕ} (w : Within us at end) where
       let n = bytes-long in
       flat-fives ((end - at) / 5) (take (end - at) (drop at us)) (omega arith)
 
+  -- how many there are
   pub packs-length : 5 * length (packsAt us at end) ≡ end - at
   packs-length = sym (flat-length (packsAt us at end)) ∙ ap length packs-flat ∙ bytes-long
 
-  -- there is a first one, and behind it are whole packs
+  -- there is one at least
   module _ (h : at < end) where
+    -- the first has its five bytes
     pub first-room : at + 5 ≤ end
     first-room = let m = w .whole in omega arith
 
+    -- it is the pack at the place
     pub first-pack : packsAt us at end ≡ packAt us at ∷ packsAt us (at + 5) end
     first-pack = packs-cons us at end first-room (w .all)
 
+    -- the others are whole
     pub behind-first : Within us (at + 5) end
     behind-first =
         let m = w .whole in
