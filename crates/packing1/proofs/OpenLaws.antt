@@ -378,116 +378,107 @@ module _ {last : ℕ} {before us : List ℕ} {total fill r w k : ℕ} (v : Openi
           pub size-within : w + size + 7 ≤ next
           size-within = let a = v .low in let n = next-is in let l = parts .1 in omega arith
 
-          -- the bytes that are judged are the packet's
-          part-is : take (w + size + 7 - w) (drop w after) ≡ take (size + 7) bytes
-          part-is =
-              let a : w + size + 7 - w ≡ size + 7 - 0 = omega arith in
-              let b : w ≡ w + 0 = omega arith in
-              ap (λ (n : ℕ). take n (drop w after)) a ∙ ap (λ (n : ℕ). take (size + 7 - 0) (drop n after)) b
-              ∙ window-part after (take w us) bytes w front-long moved-laid 0 (size + 7) bytes-long
+          -- the bytes from its place on, as many as it brought
+          bytes-there : (m : ℕ) → m ≤ length bytes → take m (drop w after) ≡ take m bytes
+          bytes-there m h =
+              let a : w ≡ w + 0 = omega arith in
+              let b : m ≡ m - 0 = omega arith in
+              ap (λ (i : ℕ). take m (drop i after)) a ∙ ap (λ (i : ℕ). take i (drop (w + 0) after)) b
+              ∙ window-part after (take w us) bytes w front-long moved-laid 0 m h
 
-          -- what the packet's bytes have for a fault, the packs have
-          module _ (n : ℕ) (q : (y : System) → y .last ≡ last → n ≡ stringFault y (take (w + size + 7 - w) (drop w after))) where
-            -- the fault that was found is that of the bytes
-            bytes-fault : (y : System) → y .last ≡ last → bytesFault y bytes ≡ n
-            bytes-fault y e = sym (q y e ∙ ap (stringFault y) part-is ∙ prefix-fault y bytes bytes-long)
-
-            -- and so that of the packs
-            left-fault : (y : System) → y .last ≡ last → packsFault y left ≡ n
-            left-fault y e = fault-is y left ∙ ap (λ (b : Bool). cond b (bytesFault y bytes) 14) left-fits ∙ bytes-fault y e
-
-            -- 15, 16
-            pub refused-bytes : (n ≡ 0 → ⊥) → (y : System) → y .last ≡ last → packetsFrom y (packsAt before 0 total) ≡ refused n k
-            refused-bytes m y e = refused-fault n m y e (left-fault y e)
-
-            -- without a fault they are an item's
-            module _ (fine : n ≡ 0) (known : Bytes after) where
-              -- they are bytes, as all are
-              bytes-known : Bytes bytes
-              bytes-known =
-                  let a : length bytes ≡ length bytes - 0 = omega arith in
-                  let b : w ≡ w + 0 = omega arith in
-                  let p : take (length bytes) (drop w after) ≡ bytes =
-                  ap (λ (n : ℕ). take n (drop w after)) a ∙ ap (λ (n : ℕ). take (length bytes - 0) (drop n after)) b
-                  ∙ window-part after (take w us) bytes w front-long moved-laid 0 (length bytes) (omega arith)
-                  ∙ take-length bytes in
-                  subst Bytes p (take-bytes (length bytes) (drop w after) (drop-bytes w after known))
-
-              -- the item that they are
-              abbrev item : Item
-              item = itemOf 0 bytes
-
-              -- its bytes and its packet are good
-              item-is : (y : System) → y .last ≡ last → (take (size + 7) bytes ≡ danc item) × Good y item
-              item-is y e =
-                  let l = bytes-laid y bytes 0 (omega arith) bytes-known bytes-long (bytes-fault y e ∙ fine) in
-                  let a : length (drop 6 bytes) ≡ length bytes - 6 = length-drop 6 bytes in
-                  let b = bytes-long in
-                  let c : length (take size (drop 6 bytes)) ≡ size = length-take-le size (drop 6 bytes) (omega arith) in
-                  let d : length (danc item) ≡ size + 7 = danc-length item ∙ ap (λ (m : ℕ). m + 7) c in
-                  (ap (take (size + 7)) (l .0) ∙ take-at (danc item) (drop (size + 7) bytes) (size + 7) d, l .1)
-
-              -- it is one more of the packets done
-              done-more : (y : System) → y .last ≡ last → Done y before after total next (w + size + 7) (k + 1)
-              done-more y e =
-                  let d = v .done y e in
-                  let x = item-is y e in
-                  let i : w + size + 7 ≡ w + (size + 7) = omega arith in
-                  let m = d .many in
-                  let c = length-append (d .items) (item ∷ []) in
-                  let f : packsFault y left ≡ 0 = left-fault y e ∙ fine in
-                  record {
-                    items = d .items ++ item ∷ [];
-                    good = all-append (Good y) (d .items) (item ∷ []) (d .good) (one (x .1) none);
-                    many = omega arith;
-                    laid =
-                        ap (λ (n : ℕ). take n after) i ∙ window-front after (take w us) bytes w front-long moved-laid (size + 7) bytes-long
-                        ∙ ap₂ (λ (a b : List ℕ). a ++ b) (d .laid) (x .0)
-                        ∙ sym (string-later (d .items) item);
-                    rest =
-                        whole-is y e _
-                        (ap (λ (m : ℕ). packetsIn (packRow y) m k left) more ∙ packs-goes y left k (limit - (k + 1)) left-goes f)
-                        ∙ also-later (d .items) item _
-                        ∙ ap₂ (λ (m : ℕ) (s : List Five). alsoAll (packetsOf (d .items ++ item ∷ [])) (packetsIn (packRow y) (limit - (k + 1)) m s))
-                        (sym (add-one k)) after-is;
-                  }
-
-              -- and the next packet may be opened
-              opening-next : length after ≡ length us → Opening last before after total fill next (w + size + 7) (k + 1)
-              opening-next l =
-                  let a = v .few in
-                  let p = v .packs in
-                  let b = p .whole in
-                  let n = next-is in
-                  record {
-                    packs = record { reach = o .within; all = p .all; whole = omega arith };
-                    low = size-within;
-                    few = omega arith;
-                    before-fill = used-is;
-                    long = l ∙ v .long;
-                    kept = o .moved z .kept ∙ kept-later us before r (v .kept) next (omega arith);
-                    done = done-more;
-                  }
-
-          -- the same, where d is DC as it is read after the packet was opened, and n the fault of the bytes
+          -- d is DC as it is read there
           module _ {d : ℕ} (e : d ≡ getD after (w + 5) 0) where
+            -- so it is DC
+            d-is : d ≡ size
+            d-is = e ∙ size-is
+
             -- the packet ends before its packs do
             pub size-below : w + d + 7 ≤ next
-            size-below = let a = size-within in let b = e ∙ size-is in omega arith
+            size-below = let a = size-within in let b = d-is in omega arith
 
+            -- the bytes that are judged are the packet's
+            part-is : take (w + d + 7 - w) (drop w after) ≡ take (size + 7) bytes
+            part-is =
+                let a : w + d + 7 - w ≡ size + 7 = let b = d-is in omega arith in
+                ap (λ (m : ℕ). take m (drop w after)) a ∙ bytes-there (size + 7) bytes-long
+
+            -- n is the fault that was found
             module _ {n : ℕ} (q : (y : System) → y .last ≡ last → n ≡ stringFault y (take (w + d + 7 - w) (drop w after))) where
-              -- the fault of the bytes, as it was found
-              same-fault : (y : System) → y .last ≡ last → n ≡ stringFault y (take (w + size + 7 - w) (drop w after))
-              same-fault y f = q y f ∙ ap (λ (m : ℕ). stringFault y (take (w + m + 7 - w) (drop w after))) (e ∙ size-is)
+              -- it is that of the bytes
+              bytes-fault : (y : System) → y .last ≡ last → bytesFault y bytes ≡ n
+              bytes-fault y f = sym (q y f ∙ ap (stringFault y) part-is ∙ prefix-fault y bytes bytes-long)
 
-              -- 15, 16, as they were found
+              -- and so that of the packs
+              left-fault : (y : System) → y .last ≡ last → packsFault y left ≡ n
+              left-fault y f = fault-is y left ∙ ap (λ (b : Bool). cond b (bytesFault y bytes) 14) left-fits ∙ bytes-fault y f
+
+              -- 15, 16
               pub refused-other : (n ≡ 0 → ⊥) → (y : System) → y .last ≡ last → packetsFrom y (packsAt before 0 total) ≡ refused n k
-              refused-other m = refused-bytes n same-fault m
+              refused-other m y f = refused-fault n m y f (left-fault y f)
 
-              -- one packet more
-              pub opening-more : n ≡ 0 → Bytes after → length after ≡ length us
-                  → Opening last before after total fill next (w + d + 7) (k + 1)
-              opening-more f b l = rw (e ∙ size-is) (opening-next n same-fault f b l)
+              -- without a fault they are an item's
+              module _ (fine : n ≡ 0) (known : Bytes after) where
+                -- they are bytes, as all are
+                bytes-known : Bytes bytes
+                bytes-known =
+                    let p : take (length bytes) (drop w after) ≡ bytes = bytes-there (length bytes) (omega arith) ∙ take-length bytes in
+                    subst Bytes p (take-bytes (length bytes) (drop w after) (drop-bytes w after known))
+
+                -- the item that they are
+                abbrev item : Item
+                item = itemOf 0 bytes
+
+                -- its bytes stand in front, and it is good
+                item-is : (y : System) → y .last ≡ last → (take (size + 7) bytes ≡ danc item) × Good y item
+                item-is y f =
+                    let l = bytes-laid y bytes 0 (omega arith) bytes-known bytes-long (bytes-fault y f ∙ fine) in
+                    let a : length (drop 6 bytes) ≡ length bytes - 6 = length-drop 6 bytes in
+                    let b = bytes-long in
+                    let c : length (take size (drop 6 bytes)) ≡ size = length-take-le size (drop 6 bytes) (omega arith) in
+                    let m : length (danc item) ≡ size + 7 = danc-length item ∙ ap (λ (j : ℕ). j + 7) c in
+                    (ap (take (size + 7)) (l .0) ∙ take-at (danc item) (drop (size + 7) bytes) (size + 7) m, l .1)
+
+                -- it is one more of the packets done
+                done-more : (y : System) → y .last ≡ last → Done y before after total next (w + d + 7) (k + 1)
+                done-more y f =
+                    let was = v .done y f in
+                    let x = item-is y f in
+                    let i : w + d + 7 ≡ w + (size + 7) = let j = d-is in omega arith in
+                    let m = was .many in
+                    let c = length-append (was .items) (item ∷ []) in
+                    let none-found : packsFault y left ≡ 0 = left-fault y f ∙ fine in
+                    record {
+                      items = was .items ++ item ∷ [];
+                      good = all-append (Good y) (was .items) (item ∷ []) (was .good) (one (x .1) none);
+                      many = omega arith;
+                      laid =
+                          ap (λ (m : ℕ). take m after) i ∙ window-front after (take w us) bytes w front-long moved-laid (size + 7) bytes-long
+                          ∙ ap₂ (λ (a b : List ℕ). a ++ b) (was .laid) (x .0)
+                          ∙ sym (string-later (was .items) item);
+                      rest =
+                          whole-is y f _
+                          (ap (λ (m : ℕ). packetsIn (packRow y) m k left) more ∙ packs-goes y left k (limit - (k + 1)) left-goes none-found)
+                          ∙ also-later (was .items) item _
+                          ∙ ap (alsoAll (packetsOf (was .items ++ item ∷ [])))
+                          (ap₂ (λ (m : ℕ) (s : List Five). packetsIn (packRow y) (limit - (k + 1)) m s) (sym (add-one k)) after-is);
+                    }
+
+                -- and the next packet may be opened
+                pub opening-more : length after ≡ length us → Opening last before after total fill next (w + d + 7) (k + 1)
+                opening-more l =
+                    let a = v .few in
+                    let p = v .packs in
+                    let b = p .whole in
+                    let m = next-is in
+                    record {
+                      packs = record { reach = o .within; all = p .all; whole = omega arith };
+                      low = size-below;
+                      few = omega arith;
+                      before-fill = used-is;
+                      long = l ∙ v .long;
+                      kept = o .moved z .kept ∙ kept-later us before r (v .kept) next (omega arith);
+                      done = done-more;
+                    }
 
 -- a fault's number has room in the number of a refusal
 pub fault-below : {last n : ℕ} (s : List ℕ) → ((y : System) → y .last ≡ last → n ≡ stringFault y s) → n < base
