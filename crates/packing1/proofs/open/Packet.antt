@@ -91,6 +91,7 @@ ends-not f =
       ends = λ z. absurd (z refl);
     }
 
+-- a law for each way through `packs_end`
 module _ {us : List ℕ} {at total : ℕ} (w : Within us at total) where
   -- the pack is no starter
   pub no-starter : at < total → (getD us at 0 ≡ 0xE1 → ⊥) → PacksEnd us at total 0
@@ -103,7 +104,7 @@ module _ {us : List ℕ} {at total : ℕ} (w : Within us at total) where
       let last : packsAt us (at + 5) total ≡ [] = packs-none us (at + 5) total (omega arith) in
       ends-not (rw (first-pack w h, last) (second-false (eqb (getD us at 0) 0xE1) false refl))
 
-  -- d is DC
+  -- there is, with DC in it: d
   module _ {d : ℕ} (e : d ≡ getD us (at + 8) 0) (h : at + 10 ≤ total) where
     -- where the carriers end that DC needs
     abbrev stop : ℕ
@@ -154,7 +155,7 @@ module _ {us : List ℕ} {at total : ℕ} (w : Within us at total) where
           (λ z. lead-some within-stop m t
           (ap lead (sym behind-carriers ∙ ap (λ (n : ℕ). drop n behind) (sym z)) ∙ lead-then behind)))
 
-      -- no carrier stands behind them
+      -- a starter, and no carrier behind them
       module _ (s : getD us at 0 ≡ 0xE1) where
         -- the packet's packs end there
         ends-at : lead (packsAt us stop total) ≡ 0 → PacksEnd us at total stop
@@ -195,7 +196,9 @@ fourAt us f = getD us (f + 1) 0 ∷ getD us (f + 2) 0 ∷ getD us (f + 3) 0 ∷ 
 pub carry-none : {us : List ℕ} {from stop to : ℕ} → Within us from stop → to ≤ from → Carrying us us from stop to from to
 carry-none w h = record { start = omega arith; low = h; packs = w; long = refl; kept = refl; laid = refl; all = refl }
 
+-- a turn of the loop, and its end
 module _ {before us : List ℕ} {from stop to f o : ℕ} (v : Carrying before us from stop to f o) where
+  -- a pack is left
   module _ (goes : f < stop) where
     -- the carrier, and the packs behind it
     front-is : packsAt us f stop ≡ packAt us f ∷ packsAt us (f + 5) stop
@@ -314,6 +317,7 @@ packet-not f =
       moved = λ o. absurd (o refl);
     }
 
+-- its packs end at `stop`
 module _ {us : List ℕ} {at total stop : ℕ} (w : Within us at total) (e : PacksEnd us at total stop) (z : stop ≡ 0 → ⊥) where
   -- DC
   abbrev dc : ℕ
@@ -437,8 +441,9 @@ module _ {us : List ℕ} {at total stop : ℕ} (w : Within us at total) (e : Pac
       pub opened-shut : r ≡ false → PacketOpened us after at total to 0
       opened-shut f = packet-not (carriers-shut (carriers-are false f))
 
+      -- all are
       module _ (y : r ≡ true) where
-        -- they are: the bytes were moved
+        -- so the bytes were moved
         opened-moved : Moved us after to front stop
         opened-moved =
             let p = stop-is in

@@ -8,9 +8,11 @@ use Rattle.packing1.proofs.open.Order.{passed-none, passed-more}
 use Rattle.packing1.proofs.open.carriers_end.Statement.{statement}
 use Rattle.packing1.proofs.open.carriers_end.Tie as tie
 
+-- what holds at each turn
 abbrev Inv-loop : tie.InvT-loop
 Inv-loop us at total end₀ end = SameOrder us at total end
 
+-- the bytes left
 abbrev μ-loop : tie.MeasureT-loop
 μ-loop us at total end₀ end = total - end
 

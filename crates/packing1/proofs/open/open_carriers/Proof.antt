@@ -9,9 +9,11 @@ use Rattle.packing1.proofs.open.Packet.{Carrying, carry-none, carry-mor
 use Rattle.packing1.proofs.open.open_carriers.Statement.{statement}
 use Rattle.packing1.proofs.open.open_carriers.Tie as tie
 
+-- what holds at each turn
 abbrev Inv-loop : tie.InvT-loop
 Inv-loop us₀ from stop to f₀ o₀ us f o = Carrying us₀ us from stop to f o
 
+-- the bytes left
 abbrev μ-loop : tie.MeasureT-loop
 μ-loop us₀ from stop to f₀ o₀ us f o = stop - f
 

@@ -18,18 +18,22 @@ use Rattle.packing1.proofs.open.open_fives.Tie as tie
 
 -- where the bytes are whole packs
 module _ (c : tie.Else1) where
+  -- the bytes, and how many of them
   abbrev us : List ℕ
   us = c .before .before .before .before .args .us .now
 
   abbrev total : ℕ
   total = c .before .before .before .before .args .total
 
+  -- that is what was found
   is-whole : c .before .whole .result ≡ true
   is-whole = not-false (c .before .whole .result) (c .if1 .left)
 
+  -- so from place 0 on there are whole packs
   packs : Within us 0 total
   packs = whole-packs us total (c .before .whole .ensures) is-whole
 
+  -- no more than a frame has
   long : length us ≡ 9360
   long = c .before .before .whole-arg2 .given .0
 

@@ -17,27 +17,33 @@ use Rattle.packing1.proofs.open.open_packet.Tie as tie
 
 -- where the packet's packs end was found
 module _ (c : tie.Else1) where
+  -- the call
   abbrev start : tie.Start
   start = c .before .before .before .before
 
+  -- where they end
   abbrev stop : ℕ
   stop = c .before .packs-end .result
 
+  -- whole packs stand there
   packs : Within (start .args .us .now) (start .args .at) (start .args .total)
   packs = start .pre .0
 
+  -- and the packet's end at `stop`
   packs-end : PacksEnd (start .args .us .now) (start .args .at) (start .args .total) stop
   packs-end = c .before .packs-end .ensures
 
 -- where the carriers were opened
 module _ (c : tie.After-open-carriers) where
+  -- what was known before
   abbrev found : tie.Else1
   found = c .before .before .before .before .before .before .before
 
-  -- DC
+  -- where DC was read
   abbrev read : tie.After-wide
   read = c .before .before .before .before .before
 
+  -- there are as many bytes as at the start
   after-long : length (c .open-carriers .last .0) ≡ length (start found .args .us .now)
   after-long = let a = start found .args in c .open-carriers .kept .0 ∙ headed-length (a .us .now) (a .at) (a .to)
 

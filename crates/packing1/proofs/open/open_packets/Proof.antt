@@ -30,6 +30,7 @@ use Rattle.packing1.proofs.OpenLaws.{
 use Rattle.packing1.proofs.open.open_packets.Statement.{statement}
 use Rattle.packing1.proofs.open.open_packets.Tie as tie
 
+-- what holds at each turn
 abbrev Inv-loop : tie.InvT-loop
 Inv-loop last us₀ total fill r₀ w₀ k₀ us r w k = Opening (last .0) us₀ us total fill r w k
 
@@ -44,9 +45,11 @@ abbrev Opened : Type 0
 Opened = tie.After-open-packet Inv-loop μ-loop
 
 module _ (o : Opened) where
+  -- the loop's turn
   abbrev turn : tie.At-loop Inv-loop μ-loop
   turn = o .before .before .before
 
+  -- the packet's number
   abbrev k : ℕ
   k = turn .loop .k
 
@@ -54,6 +57,7 @@ module _ (o : Opened) where
   goes : turn .loop .r < turn .before .before .args .fill
   goes = o .before .before .loop-test .taken
 
+  -- there are as many bytes as at the start
   after-long : length (o .open-packet .last .0) ≡ length (turn .before .before .args .us .now)
   after-long = o .open-packet .kept .0 ∙ turn .loop .inv .long
 
@@ -66,9 +70,11 @@ abbrev Whole : Type 0
 Whole = tie.Else2 Inv-loop μ-loop
 
 module _ (h : Whole) where
+  -- the packet
   abbrev opened : Opened
   opened = h .before .before .before .before
 
+  -- it is not one too many
   not-full : k opened ≡ limit → ⊥
   unfolding limit
   not-full = h .before .if1 .left
@@ -78,6 +84,7 @@ abbrev Judged : Type 0
 Judged = tie.After-fault Inv-loop μ-loop
 
 module _ (j : Judged) where
+  -- what was known before
   abbrev whole : Whole
   whole = j .before .before .before .before .before
 

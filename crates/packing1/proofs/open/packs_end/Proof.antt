@@ -9,12 +9,15 @@ use Rattle.packing1.proofs.open.packs_end.Tie as tie
 
 -- what is known where DC was read
 module _ (c : tie.After-wide) where
+  -- the call
   abbrev start : tie.Start
   start = c .before .before .before .before .before .before
 
+  -- whole packs stand there
   packs : Within (start .args .us .now) (start .args .at) (start .args .total)
   packs = start .pre .0
 
+  -- a second pack is there, behind a starter
   abbrev second : tie.Else2
   second = c .before .before
 
