@@ -50,16 +50,20 @@ use Rattle.vanc.specs.Read.{Back, Coded}
 
 module _ (sys k : ℕ) (ps : List Packet) (s sheet after : List ℕ) (n : ℕ) (e : shown s ≡ listed ps)
     (w : n ≡ wrote sys s (length sheet)) (a : after ≡ sheetAfter sys s sheet) where
+  -- the sheet has room
   abbrev roomy : Bool
   roomy = leb (length (sheetOf sys ps)) (length sheet)
 
+  -- the buffer with the sheet in front
   abbrev whole : List ℕ
   whole = sheetOf sys ps ++ drop (length (sheetOf sys ps)) sheet
 
+  -- how many numbers are written
   number-is : n ≡ cond roomy (length (sheetOf sys ps)) 0
   unfolding wrote
   number-is = w ∙ rw e
 
+  -- the buffer afterwards
   after-is : after ≡ cond roomy whole sheet
   unfolding sheetAfter
   after-is = a ∙ rw e
@@ -120,9 +124,11 @@ back-listed o w h made = let v = code-listed o w h in back-of refl (v .1) (made 
 -- ---- packs of 5
 
 module _ (y : System) (us : List ℕ) (total : ℕ) where
+  -- the packets of the packs
   abbrev row5 : Outcome
   row5 = packetsIn (packRow y) limit 0 (fives (take total us))
 
+  -- a refusal's packet is below the base
   fives-place : (n i : ℕ) → packetsOfFives y us total ≡ refused n i → i < base
   unfolding packetsOfFives
   fives-place n i e = go (leb total (length us) && eqb (total % 5) 0) (inOrder false (fives (take total us))) e
@@ -132,6 +138,7 @@ module _ (y : System) (us : List ℕ) (total : ℕ) where
       go true false e = let z : 0 ≡ i = cc in omega arith
       go true true e = let l = row-place (packRow y) limit 0 (fives (take total us)) n i e in let m = limit-below in omega arith
 
+  -- and so is the number of packets
   fives-few : (ps : List Packet) → packetsOfFives y us total ≡ listed ps → length ps < base
   unfolding packetsOfFives
   fives-few ps e = go (leb total (length us) && eqb (total % 5) 0) (inOrder false (fives (take total us))) e
@@ -164,16 +171,20 @@ module _ (y : System) (us : List ℕ) (total : ℕ) where
 
 module _ (y : System) (hm : y .last < 2047) (us : List ℕ) (len room code : ℕ) (b : Bytes (take len us))
     (v : code ≡ validated y room (take len us) 0 0) where
+  -- the packets of the string
   abbrev walked : Outcome
   walked = packetsIn (stringRow y room) limit 0 (take len us)
 
   module _ (ps : List Packet) (e : walked ≡ listed ps) where
+    -- they are good items, and then the end
     laid : StringOf y room limit (take len us) ps
     laid = string-laid y room limit 0 (take len us) ps b e
 
+    -- the items' bytes are the packets'
     laid-bytes : length (string (laid .items)) ≡ stringBytes ps
     laid-bytes = string-room (laid .items) ∙ ap stringBytes (laid .packets)
 
+    -- which are within the string
     laid-short : stringBytes ps ≤ length (take len us)
     laid-short =
         let m = ap length (laid .whole) in
@@ -181,12 +192,14 @@ module _ (y : System) (hm : y .last < 2047) (us : List ℕ) (len room code : ℕ
         let k = laid-bytes in
         omega arith
 
+    -- and stand in front
     laid-front : take (stringBytes ps) us ≡ string (laid .items)
     laid-front =
         sym (take-take (stringBytes ps) len us (let l = laid-short in let m = length-take len us in omega arith))
         ∙ ap (take (stringBytes ps)) (laid .whole)
         ∙ take-at (string (laid .items)) (laid .tail) (stringBytes ps) laid-bytes
 
+  -- so the number and the bytes are those of the outcome
   pub long-coded : Coded walked code us
   unfolding validated
   long-coded =
@@ -207,6 +220,7 @@ pub long-open : (y : System) (o : Opened) (r : ℕ) (us : List ℕ) → Answer o
     → packetsOfOpened y o ≡ packetsIn (stringRow y (r % 128)) limit 0 (take (r / 128) us)
 long-open y o r us w z = ap (packetsOfOpened y) (answer-some o r us w z .0)
 
+-- no longer than the string's room
 pub long-len : (o : Opened) (r : ℕ) (us : List ℕ) → Answer o r us → (r ≡ 0 → ⊥) → r / 128 ≤ 8928
 long-len o r us w z = answer-some o r us w z .1
 
@@ -232,6 +246,7 @@ pub record Frame (sys : ℕ) : Type 0 where
   pub most : sum (blockSizes (system sys)) ≤ 9360
   pub fifths : sum (blockSizes (system sys)) % 5 ≡ 0
 
+-- a known system has user bytes, and no more than the array
 bytes-known : (sys : ℕ) → known sys ≡ true → (0 < sum (blockSizes (system sys))) × (sum (blockSizes (system sys)) ≤ 9360)
 unfolding runs width
 bytes-known =
@@ -241,6 +256,7 @@ bytes-known =
     (λ e. (omega arith, omega arith))
     (λ e. never (cc))
 
+-- a known system has all of it
 pub frame-of : (sys : ℕ) → known sys ≡ true → Frame sys
 frame-of sys k =
     let f = facts-of sys k in
@@ -248,27 +264,34 @@ frame-of sys k =
     let w = f .whole in
     record { low = known-low sys k; last = f .last; some = b .0; most = b .1; fifths = omega arith }
 
+-- the first byte of a front is the first byte
 first-is : (us : List ℕ) (total : ℕ) → 0 < total → 0 < length us → firstByte (take total us) ≡ getD us 0 0
 first-is [] total h l = absurd (omega arith)
 first-is (x ∷ us) zero h l = absurd (omega arith)
 first-is (x ∷ us) (suc total) h l = refl
 
 module _ (sys total : ℕ) (us : List ℕ) (known : known sys ≡ true) (is : total ≡ sum (blockSizes (system sys))) (long : length us ≡ 9360) where
+  -- the system
   abbrev y : System
   y = system sys
 
+  -- its blocks
   abbrev sizes : List ℕ
   sizes = blockSizes y
 
+  -- its user bytes
   abbrev ub : List ℕ
   ub = take total us
 
+  -- what is used of it
   f : Frame sys
   f = frame-of sys known
 
+  -- the first user byte
   first : firstByte ub ≡ getD us 0 0
   first = let s = f .some in first-is us total (omega arith) (omega arith)
 
+  -- the same, as it was read
   here : (b : ℕ) → getD us 0 0 ≡ b → firstByte ub ≡ b
   here b e = first ∙ e
 
@@ -318,6 +341,7 @@ module _ (sys : ℕ) (area : List ℕ) {x : Figures} (is : x ≡ figuresOf sys) 
       reads sys area sheet r sheet b (q ∙ rw k) (rw k)
 
   module _ (z : x .sequences ≡ 0 → ⊥) where
+    -- the system is known
     here-known : known sys ≡ true
     here-known = is-known sys x is z
 
@@ -331,14 +355,17 @@ module _ (sys : ℕ) (area : List ℕ) {x : Figures} (is : x ≡ figuresOf sys) 
 
     -- the area is the system's own
     module _ (own : length area ≡ x .area) {total : ℕ} (count : total ≡ collected sys area) where
+      -- so its length is right
       own-area : length area ≡ areaSize (system sys)
       own-area = own ∙ area-is sys x is
 
+      -- and as many user bytes were taken out as it has
       pub own-total : total ≡ sum (blockSizes (system sys))
       unfolding collected
       own-total = count ∙ rw (here-known, eq-eqb (length area) (areaSize (system sys)) own-area)
 
       module _ (before : List ℕ) {us : List ℕ} (out : us ≡ bytesAfter sys area before) where
+        -- which are these
         users : take total us ≡ userBytesIn (system sys) area
         unfolding bytesAfter
         users =

@@ -126,7 +126,7 @@ module _ {us : List ℕ} {at end : ℕ} (w : Within us at end) where
   -- there is one at least
   module _ (h : at < end) where
     -- the first has its five bytes
-    pub first-room : at + 5 ≤ end
+    first-room : at + 5 ≤ end
     first-room = let m = w .whole in omega arith
 
     -- it is the pack at the place
