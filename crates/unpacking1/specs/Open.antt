@@ -2,7 +2,7 @@
 --
 -- In order: packs in a run of bytes; their order (13); one packet (14); all of them.
 -- Assumes nothing.
-use Prim.Native.Nat.{ℕ, suc, _+_, _-_, _*_, _/_, _%_, _≤_, _<_}
+use Prim.Native.Nat.{ℕ, suc, _+_, _-_, _*_, _/_, _%_, _≤_}
 use mathlib.Core.Path.{_≡_}
 use mathlib.Core.Bool.{Bool, true, false, cond, _&&_, _||_}
 use mathlib.Core.List.{List, [], _∷_, _++_}
@@ -24,9 +24,9 @@ use Rattle.danc.specs.Code.{codeOf}
 abbrev pub packsAt : List ℕ → ℕ → ℕ → List Five
 packsAt us at end = fives (take (end - at) (drop at us))
 
--- from a place of the bytes to another there are whole packs, one at least
+-- from a place of the bytes to another there are whole packs
 pub record Within (us : List ℕ) (at end : ℕ) : Type 0 where
-  pub one : at < end
+  pub reach : at ≤ end
   pub all : end ≤ length us
   pub whole : (end - at) % 5 ≡ 0
 
@@ -44,8 +44,7 @@ orderFrom after at ps = cond (inOrder after ps) (at + 5 * used ps) 1
 -- r is a place of a pack too, and the packs from there on are in order where those from `at` on are, with fill from the same place on
 pub record SameOrder (us : List ℕ) (at total r : ℕ) : Type 0 where
   pub reach : at ≤ r
-  pub within : r ≤ total
-  pub whole : (total - r) % 5 ≡ 0
+  pub packs : Within us r total
   pub same : orderFrom false r (packsAt us r total) ≡ orderFrom false at (packsAt us at total)
 
 -- ---- one packet

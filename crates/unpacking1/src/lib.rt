@@ -7,7 +7,7 @@ use frame::Line;
 use frame::wide;
 ghost use mathlib.Core.Path.{_≡_};
 ghost use mathlib.Core.Bool.{true, false, _&&_};
-ghost use Prim.Native.Nat.{_+_, _-_, _*_, _%_, _≤_, _<_};
+ghost use Prim.Native.Nat.{_*_, _%_, _≤_, _<_};
 ghost use lib.Dec.{eqb, leb};
 ghost use lib.ListN.{length};
 ghost use Rattle.rules.specs.Systems.{System};
@@ -29,7 +29,7 @@ ghost use Rattle.unpacking1.specs.Open.{
 // Where the carriers end that stand from `at` on, if any do. Behind a carrier a carrier, a starter and fill may stand: a run of them
 // needs no more than this loop.
 fn carriers_end(us: &[u8; 9360], at: usize, total: usize) -> usize
-    requires { ⌜ (at ≤ total) × (total ≤ 9360) × ((total - at) % 5 ≡ 0) × (length (now us) ≡ 9360) ⌝ }
+    requires { ⌜ Within (now us) at total × (length (now us) ≡ 9360) ⌝ }
     ensures { λ r. ⌜ SameOrder (now (us .entry)) at total r ⌝ }
 {
     let mut end = at;
@@ -44,7 +44,7 @@ fn carriers_end(us: &[u8; 9360], at: usize, total: usize) -> usize
 
 // "every pack is a starter, a carrier or five FFh": where fill begins, or 1, no place of a pack, where the order is wrong.
 fn starter(us: &[u8; 9360], at: usize, total: usize) -> usize
-    requires { ⌜ (at ≤ total) × (total ≤ 9360) × ((total - at) % 5 ≡ 0) × (length (now us) ≡ 9360) ⌝ }
+    requires { ⌜ Within (now us) at total × (length (now us) ≡ 9360) ⌝ }
     ensures { λ r. ⌜ r ≡ orderFrom false at (packsAt (now (us .entry)) at total) ⌝ }
 {
     if at == total {
@@ -66,7 +66,7 @@ fn starter(us: &[u8; 9360], at: usize, total: usize) -> usize
 
 // "each starter has a carrier after it"
 fn carrier(us: &[u8; 9360], at: usize, total: usize) -> usize
-    requires { ⌜ (at ≤ total) × (total ≤ 9360) × ((total - at) % 5 ≡ 0) × (length (now us) ≡ 9360) ⌝ }
+    requires { ⌜ Within (now us) at total × (length (now us) ≡ 9360) ⌝ }
     ensures { λ r. ⌜ r ≡ orderFrom true at (packsAt (now (us .entry)) at total) ⌝ }
 {
     if at == total {
@@ -81,7 +81,7 @@ fn carrier(us: &[u8; 9360], at: usize, total: usize) -> usize
 // Where the packs end of the packet that starts at `at`, 0 for 14: "a starter's carriers are not exactly as many as its DC needs".
 // Whether the packs between are carriers is seen when they are opened.
 fn packs_end(us: &[u8], at: usize, total: usize) -> usize
-    requires { ⌜ Within (now us) at total ⌝ }
+    requires { ⌜ Within (now us) at total × (at < total) ⌝ }
     ensures { λ r. ⌜ PacksEnd (now (us .entry)) at total r ⌝ }
 {
     if us[at] != 0xE1 {
@@ -130,7 +130,7 @@ fn open_carriers(us: &mut [u8], from: usize, stop: usize, to: usize) -> bool
 // The packet that starts at `at`, from header byte 0 on, moved down to `to`: where its packs end, or 0 for 14. "the unused bytes are
 // not FFh": they stand from `end`, the packet's, to `full`, where the bytes of its carriers end, four in each.
 fn open_packet(us: &mut [u8], at: usize, total: usize, to: usize) -> usize
-    requires { ⌜ Within (now us) at total × (to ≤ at) ⌝ }
+    requires { ⌜ Within (now us) at total × (at < total) × (to ≤ at) ⌝ }
     ensures { λ r. ⌜ PacketOpened (now (us .entry)) (now (us .exit)) at total to r ⌝ }
 {
     let stop = packs_end(us, at, total);
@@ -157,7 +157,7 @@ fn open_packet(us: &mut [u8], at: usize, total: usize, to: usize) -> usize
 
 // "packet by packet 5 (only a 513th), 14, 15, 16": packs in order, with fill from `fill` on, opened to a string.
 fn open_packets(last: Line, us: &mut [u8], total: usize, fill: usize) -> usize
-    requires { ⌜ (total % 5 ≡ 0) × (total ≤ 9360) × (length (now us) ≡ 9360) ⌝
+    requires { ⌜ Within (now us) 0 total × (length (now us) ≡ 9360) ⌝
         ∗ ⌜ (fill ≡ 5 * used (packsAt (now us) 0 total)) × (packsEnd (packsAt (now us) fill total) ≡ true) ⌝ }
     ensures { λ r. ⌜ ((y : System) → y .last ≡ last .0 → Opens y (packetsFrom y (packsAt (now (us .entry)) 0 total)) r (now (us .exit))) ⌝ }
 {

@@ -21,7 +21,8 @@ use Rattle.rules.specs.Blocks.{width, runs, blockSizes, areaSize, userBytesIn}
 use Rattle.rules.specs.Packing1.{fives}
 use Rattle.rules.specs.Packing2.{Opened}
 use Rattle.rules.specs.Numbers.{Outcome, listed, refused, unless, packetsIn}
-use Rattle.rules.specs.Reading.{stringRow, packRow, inOrder, firstByte, packetsOfOpened, packetsOfUserBytes, packingFound, reading, readBackOf, read, bufferAfter}
+use Rattle.rules.specs.Reading.{stringRow, packRow, inOrder, firstByte, packetsOfOpened, packetsOfUserBytes, packingFound}
+use Rattle.rules.specs.Reading.{reading, readBackOf, read, bufferAfter}
 use Rattle.rules.specs.Demands.{Reads}
 use Rattle.rules.specs.declared.ReadBack.{ReadBack}
 use Rattle.rules.proofs.Basics.{never, take-bytes}
@@ -49,16 +50,20 @@ use Rattle.vanc.specs.Read.{Back, Coded}
 
 module _ (sys k : ℕ) (ps : List Packet) (s sheet after : List ℕ) (n : ℕ) (e : shown s ≡ listed ps) (short : length s ≤ 9360)
     (w : n ≡ wrote sys s (length sheet)) (a : after ≡ sheetAfter sys s sheet) where
+  -- the sheet has room
   abbrev roomy : Bool
   roomy = leb (length (sheetOf sys ps)) (length sheet)
 
+  -- the buffer with the sheet in front
   abbrev whole : List ℕ
   whole = sheetOf sys ps ++ drop (length (sheetOf sys ps)) sheet
 
+  -- how many numbers are written
   number-is : n ≡ cond roomy (length (sheetOf sys ps)) 0
   unfolding wrote
   number-is = w ∙ rw (e, words-short s ps e short)
 
+  -- the buffer afterwards
   after-is : after ≡ cond roomy whole sheet
   unfolding sheetAfter
   after-is = a ∙ rw (e, words-short s ps e short)
@@ -82,9 +87,9 @@ module _ (sys k : ℕ) (ps : List Packet) (s sheet after : List ℕ) (n : ℕ) (
       go false p m b = absurd (z m)
 
 -- a refusal
-pub back-refused : (sys k : ℕ) (sheet : List ℕ) (o : Outcome) (n i : ℕ) (r : ReadBack) → o ≡ refused n i → r ≡ readBackOf 0 0 (refused n i)
+pub back-refused : {sys k n i : ℕ} {sheet : List ℕ} {o : Outcome} {r : ReadBack} → o ≡ refused n i → r ≡ readBackOf 0 0 (refused n i)
     → Back sys k sheet o r sheet
-back-refused sys k sheet o n i r e q = record { answer = q ∙ rw e; buffer = rw e }
+back-refused e q = record { answer = q ∙ rw e; buffer = rw e }
 
 -- another name of the same outcome and packing
 pub back-of : {sys k j : ℕ} {sheet : List ℕ} {o q : Outcome} {r : ReadBack} {after : List ℕ} → j ≡ k → q ≡ o → Back sys k sheet o r after
@@ -93,35 +98,37 @@ back-of e f w = record { answer = w .answer ∙ rw (e, f); buffer = w .buffer �
 
 -- ---- the number of an outcome
 
-module _ (code : ℕ) (us : List ℕ) where
-  pub code-refused : length us ≡ 9360 → (o : Outcome) → Coded o code us → refusedFrom ≤ code
-      → o ≡ refused ((code - refusedFrom) / base) ((code - refusedFrom) % base)
-  code-refused long (listed ps) w h =
-      let s = w .short ps refl in
-      let l = listed-below code ps (w .answer) (w .few ps refl) (omega arith) in
-      absurd (omega arith)
-  code-refused long (refused n i) w h = let p = refused-parts code n i (w .answer) (w .place n i refl) in rw (p .0, p .1)
+-- from where refusals begin on, its parts are a refusal's
+pub code-refused : {code : ℕ} {us : List ℕ} (o : Outcome) → length us ≡ 9360 → Coded o code us → refusedFrom ≤ code
+    → o ≡ refused ((code - refusedFrom) / base) ((code - refusedFrom) % base)
+code-refused {code} (listed ps) long w h =
+    let s = w .short ps refl in
+    let l = listed-below code ps (w .answer) (w .few ps refl) (omega arith) in
+    absurd (omega arith)
+code-refused {code} (refused n i) long w h = let p = refused-parts code n i (w .answer) (w .place n i refl) in rw (p .0, p .1)
 
-  code-listed : (o : Outcome) → Coded o code us → code < refusedFrom
-      → (ps : List Packet) × (o ≡ listed ps) × (code % base ≡ length ps) × (shown (take (code / base) us) ≡ listed ps)
-  code-listed (refused n i) w h = let a = refused-above code n i (w .answer) in absurd (omega arith)
-  code-listed (listed ps) w h =
-      let p = listed-parts code ps (w .answer) (w .few ps refl) in
-      (ps, refl, p .1, rw (p .0) (w .string ps refl))
+-- below, they are a list's
+code-listed : {code : ℕ} {us : List ℕ} (o : Outcome) → Coded o code us → code < refusedFrom
+    → (ps : List Packet) × (o ≡ listed ps) × (code % base ≡ length ps) × (shown (take (code / base) us) ≡ listed ps)
+code-listed {code} (refused n i) w h = let a = refused-above code n i (w .answer) in absurd (omega arith)
+code-listed {code} (listed ps) w h =
+    let p = listed-parts code ps (w .answer) (w .few ps refl) in
+    (ps, refl, p .1, rw (p .0) (w .string ps refl))
 
--- a number's list
-pub back-listed : (sys k : ℕ) (sheet : List ℕ) (o : Outcome) (code : ℕ) (us : List ℕ) (r : ReadBack) (after : List ℕ)
-    → Coded o code us → code < refusedFrom
+-- so what is given back of that list is given back of the outcome
+pub back-listed : {sys k code : ℕ} {sheet us after : List ℕ} {r : ReadBack} (o : Outcome) → Coded o code us → code < refusedFrom
     → ((ps : List Packet) → shown (take (code / base) us) ≡ listed ps → code % base ≡ length ps → Back sys k sheet (listed ps) r after)
     → Back sys k sheet o r after
-back-listed sys k sheet o code us r after w h made = let v = code-listed code us o w h in back-of refl (v .1) (made (v .0) (v .3) (v .2))
+back-listed o w h made = let v = code-listed o w h in back-of refl (v .1) (made (v .0) (v .3) (v .2))
 
 -- ---- packs of 5
 
 module _ (y : System) (us : List ℕ) (total : ℕ) where
+  -- the packets of the packs
   abbrev row5 : Outcome
   row5 = packetsIn (packRow y) limit 0 (fives (take total us))
 
+  -- a refusal's packet is below the base
   fives-place : (n i : ℕ) → packetsOfFives y us total ≡ refused n i → i < base
   unfolding packetsOfFives
   fives-place n i e = go (leb total (length us) && eqb (total % 5) 0) (inOrder false (fives (take total us))) e
@@ -131,6 +138,7 @@ module _ (y : System) (us : List ℕ) (total : ℕ) where
       go true false e = let z : 0 ≡ i = cc in omega arith
       go true true e = let l = row-place (packRow y) limit 0 (fives (take total us)) n i e in let m = limit-below in omega arith
 
+  -- and so is the number of packets
   fives-few : (ps : List Packet) → packetsOfFives y us total ≡ listed ps → length ps < base
   unfolding packetsOfFives
   fives-few ps e = go (leb total (length us) && eqb (total % 5) 0) (inOrder false (fives (take total us))) e
@@ -150,7 +158,8 @@ module _ (y : System) (us : List ℕ) (total : ℕ) where
         few = fives-few;
         short = λ ps e.
             let v = w .string ps e in
-            let l : length (take (stringBytes ps) after) ≡ stringBytes ps = ap length (v .front) ∙ string-room (v .items) ∙ ap stringBytes (v .packets) in
+            let l : length (take (stringBytes ps) after) ≡ stringBytes ps =
+            ap length (v .front) ∙ string-room (v .items) ∙ ap stringBytes (v .packets) in
             let m : length (take (stringBytes ps) after) ≤ length after = simp length-take (omega arith) in
             omega arith;
         string = λ ps e.
@@ -162,16 +171,20 @@ module _ (y : System) (us : List ℕ) (total : ℕ) where
 
 module _ (y : System) (hm : y .last < 2047) (us : List ℕ) (len room code : ℕ) (b : Bytes (take len us))
     (v : code ≡ validated y room (take len us) 0 0) where
+  -- the packets of the string
   abbrev walked : Outcome
   walked = packetsIn (stringRow y room) limit 0 (take len us)
 
   module _ (ps : List Packet) (e : walked ≡ listed ps) where
+    -- they are good items, and then the end
     laid : StringOf y room limit (take len us) ps
     laid = string-laid y room limit 0 (take len us) ps b e
 
+    -- the items' bytes are the packets'
     laid-bytes : length (string (laid .items)) ≡ stringBytes ps
     laid-bytes = string-room (laid .items) ∙ ap stringBytes (laid .packets)
 
+    -- which are within the string
     laid-short : stringBytes ps ≤ length (take len us)
     laid-short =
         let m = ap length (laid .whole) in
@@ -179,12 +192,14 @@ module _ (y : System) (hm : y .last < 2047) (us : List ℕ) (len room code : ℕ
         let k = laid-bytes in
         omega arith
 
+    -- and stand in front
     laid-front : take (stringBytes ps) us ≡ string (laid .items)
     laid-front =
         sym (take-take (stringBytes ps) len us (let l = laid-short in let m = length-take len us in omega arith))
         ∙ ap (take (stringBytes ps)) (laid .whole)
         ∙ take-at (string (laid .items)) (laid .tail) (stringBytes ps) laid-bytes
 
+  -- so the number and the bytes are those of the outcome
   pub long-coded : Coded walked code us
   unfolding validated
   long-coded =
@@ -205,12 +220,13 @@ pub long-open : (y : System) (o : Opened) (r : ℕ) (us : List ℕ) → Answer o
     → packetsOfOpened y o ≡ packetsIn (stringRow y (r % 128)) limit 0 (take (r / 128) us)
 long-open y o r us w z = ap (packetsOfOpened y) (answer-some o r us w z .0)
 
+-- no longer than the string's room
 pub long-len : (o : Opened) (r : ℕ) (us : List ℕ) → Answer o r us → (r ≡ 0 → ⊥) → r / 128 ≤ 8928
 long-len o r us w z = answer-some o r us w z .1
 
 -- the string is bytes, as the user bytes are
-pub long-string : (sys : ℕ) → known sys ≡ true → (us : List ℕ) → Bytes us → (r : ℕ) (after : List ℕ) → Answer (openedFrom sys us) r after → (r ≡ 0 → ⊥)
-    → Bytes (take (r / 128) after)
+pub long-string : (sys : ℕ) → known sys ≡ true → (us : List ℕ) → Bytes us → (r : ℕ) (after : List ℕ)
+    → Answer (openedFrom sys us) r after → (r ≡ 0 → ⊥) → Bytes (take (r / 128) after)
 long-string sys k us b r after w z =
     long-bytes (blockSizes (system sys)) (take (sum (blockSizes (system sys))) us) (take (r / 128) after) (r % 128) (facts-of sys k .roomy)
     (take-bytes (sum (blockSizes (system sys))) us b) (answer-some (openedFrom sys us) r after w z .0)
@@ -230,6 +246,7 @@ pub record Frame (sys : ℕ) : Type 0 where
   pub most : sum (blockSizes (system sys)) ≤ 9360
   pub fifths : sum (blockSizes (system sys)) % 5 ≡ 0
 
+-- a known system has user bytes, and no more than the array
 bytes-known : (sys : ℕ) → known sys ≡ true → (0 < sum (blockSizes (system sys))) × (sum (blockSizes (system sys)) ≤ 9360)
 unfolding runs width
 bytes-known =
@@ -239,6 +256,7 @@ bytes-known =
     (λ e. (omega arith, omega arith))
     (λ e. never (cc))
 
+-- a known system has all of it
 pub frame-of : (sys : ℕ) → known sys ≡ true → Frame sys
 frame-of sys k =
     let f = facts-of sys k in
@@ -246,27 +264,34 @@ frame-of sys k =
     let w = f .whole in
     record { low = known-low sys k; last = f .last; some = b .0; most = b .1; fifths = omega arith }
 
+-- the first byte of a front is the first byte
 first-is : (us : List ℕ) (total : ℕ) → 0 < total → 0 < length us → firstByte (take total us) ≡ getD us 0 0
 first-is [] total h l = absurd (omega arith)
 first-is (x ∷ us) zero h l = absurd (omega arith)
 first-is (x ∷ us) (suc total) h l = refl
 
 module _ (sys total : ℕ) (us : List ℕ) (known : known sys ≡ true) (is : total ≡ sum (blockSizes (system sys))) (long : length us ≡ 9360) where
+  -- the system
   abbrev y : System
   y = system sys
 
+  -- its blocks
   abbrev sizes : List ℕ
   sizes = blockSizes y
 
+  -- its user bytes
   abbrev ub : List ℕ
   ub = take total us
 
+  -- what is used of it
   f : Frame sys
   f = frame-of sys known
 
+  -- the first user byte
   first : firstByte ub ≡ getD us 0 0
   first = let s = f .some in first-is us total (omega arith) (omega arith)
 
+  -- the same, as it was read
   here : (b : ℕ) → getD us 0 0 ≡ b → firstByte ub ≡ b
   here b e = first ∙ e
 
@@ -306,36 +331,41 @@ none-shown = refl
 
 -- ---- the area
 
-module _ (sys : ℕ) (area : List ℕ) (x : Figures) (is : x ≡ figuresOf sys) where
+-- from what the code holds: the figures that were found, and the area's numbers, which are bytes
+module _ (sys : ℕ) (area : List ℕ) {x : Figures} (is : x ≡ figuresOf sys) (b : Bytes area) where
   -- 3
-  pub unknown-reads : Bytes area → (sheet : List ℕ) (r : ReadBack) → x .sequences ≡ 0 → r ≡ readBackOf 0 0 (refused 3 0) → Reads sys area sheet r sheet
+  pub unknown-reads : {sheet : List ℕ} {r : ReadBack} → x .sequences ≡ 0 → r ≡ readBackOf 0 0 (refused 3 0) → Reads sys area sheet r sheet
   unfolding read bufferAfter reading
-  unknown-reads b sheet r z q =
+  unknown-reads {sheet} {r} z q =
       let k = is-unknown sys x is z in
       reads sys area sheet r sheet b (q ∙ rw k) (rw k)
 
   module _ (z : x .sequences ≡ 0 → ⊥) where
+    -- the system is known
     here-known : known sys ≡ true
     here-known = is-known sys x is z
 
     -- 4
-    pub other-reads : Bytes area → (sheet : List ℕ) (r : ReadBack) → (length area ≡ x .area → ⊥) → r ≡ readBackOf 0 0 (refused 4 0)
+    pub other-reads : {sheet : List ℕ} {r : ReadBack} → (length area ≡ x .area → ⊥) → r ≡ readBackOf 0 0 (refused 4 0)
         → Reads sys area sheet r sheet
     unfolding read bufferAfter reading
-    other-reads b sheet r n q =
+    other-reads {sheet} {r} n q =
         let l = ne-eqb (length area) (areaSize (system sys)) (λ e. n (e ∙ sym (area-is sys x is))) in
         reads sys area sheet r sheet b (q ∙ rw (here-known, l)) (rw (here-known, l))
 
     -- the area is the system's own
-    module _ (own : length area ≡ x .area) (total : ℕ) (count : total ≡ collected sys area) where
+    module _ (own : length area ≡ x .area) {total : ℕ} (count : total ≡ collected sys area) where
+      -- so its length is right
       own-area : length area ≡ areaSize (system sys)
       own-area = own ∙ area-is sys x is
 
+      -- and as many user bytes were taken out as it has
       pub own-total : total ≡ sum (blockSizes (system sys))
       unfolding collected
       own-total = count ∙ rw (here-known, eq-eqb (length area) (areaSize (system sys)) own-area)
 
-      module _ (before us : List ℕ) (out : us ≡ bytesAfter sys area before) where
+      module _ (before : List ℕ) {us : List ℕ} (out : us ≡ bytesAfter sys area before) where
+        -- which are these
         users : take total us ≡ userBytesIn (system sys) area
         unfolding bytesAfter
         users =
@@ -344,10 +374,10 @@ module _ (sys : ℕ) (area : List ℕ) (x : Figures) (is : x ≡ figuresOf sys) 
             ∙ take-at (userBytesIn (system sys) area) (drop (sum (blockSizes (system sys))) before) total (l ∙ sym own-total)
 
         -- 13 and on
-        pub own-reads : Bytes area → (sheet : List ℕ) (r : ReadBack) (after : List ℕ)
+        pub own-reads : {sheet after : List ℕ} {r : ReadBack}
             → Back sys (packingFound (take total us)) sheet (packetsOfUserBytes (system sys) (blockSizes (system sys)) (take total us)) r after
             → Reads sys area sheet r after
         unfolding read bufferAfter reading
-        own-reads b sheet r after w =
+        own-reads {sheet} {after} {r} w =
             let e = eq-eqb (length area) (areaSize (system sys)) own-area in
             reads sys area sheet r after b (w .answer ∙ rw (here-known, e, users)) (w .buffer ∙ rw (here-known, e, users))

@@ -1,23 +1,28 @@
+-- `unpacking1::carriers_end` meets its contract. The loop's invariant is the contract itself, of the place that is reached: a carrier
+-- that is passed leaves the order as it was.
+-- Assumes nothing.
 use Prim.Native.Nat.{_-_}
-use native.Mathlib.Omega.{arith}
 use borrow.Author.Needs.{needs}
 use Rattle.unpacking1.specs.Open.{SameOrder}
-use Rattle.unpacking1.proofs.Laws.{passed-none, passed-more}
+use Rattle.unpacking1.proofs.Order.{passed-none, passed-more}
 use Rattle.unpacking1.proofs.carriers_end.Statement.{statement}
 use Rattle.unpacking1.proofs.carriers_end.Tie as tie
 
+-- what holds at each turn
 abbrev Inv-loop : tie.InvT-loop
 Inv-loop us at total end₀ end = SameOrder us at total end
 
+-- the bytes left
 abbrev μ-loop : tie.MeasureT-loop
 μ-loop us at total end₀ end = total - end
 
 loop-holds : tie.Need-loop-holds Inv-loop μ-loop
-loop-holds c = passed-none (c .args .us .now) (c .args .at) (c .args .total) (c .pre .0) (c .pre .2)
+loop-holds c = passed-none (c .pre .0)
 
 element-copy-out-if1 : tie.Need-element-copy-out-if1 Inv-loop μ-loop
 element-copy-out-if1 c = search needs
 
+-- no carrier
 returns : tie.Need-returns Inv-loop μ-loop
 returns c = c .before .before .before .loop .inv
 
@@ -28,8 +33,11 @@ loop-less : tie.Need-loop-less Inv-loop μ-loop
 loop-less c = search needs
 
 loop-again : tie.Need-loop-again Inv-loop μ-loop
-loop-again c = let a = c .before .before .before .before .args in let z = c .before .before .before .before .pre in passed-more (a .us .now) (a .at) (a .total) (c .before .before .before .loop .end) (c .before .before .before .loop .inv) (c .before .before .loop-test .taken) (omega arith) (c .if1 .left)
+loop-again c =
+    let i : tie.In-loop Inv-loop μ-loop = c .before .before in
+    passed-more (i .before .loop .inv) (i .loop-test .taken) (c .if1 .left)
 
+-- no pack
 returns-2 : tie.Need-returns-2 Inv-loop μ-loop
 returns-2 c = c .before .loop .inv
 

@@ -1,19 +1,24 @@
+-- `unpacking1::open_carriers` meets its contract. The loop's invariant is `Carrying`: what stands before o, and behind it what the
+-- carriers from f on carry, are the bytes that stood before `to` and what all of them carry.
+-- Assumes nothing.
 use Prim.Native.Nat.{_-_}
 use native.Mathlib.Omega.{arith}
 use lib.ListN.{length-set}
 use borrow.Author.Needs.{needs}
-use Rattle.unpacking1.proofs.Laws.{Carrying, carry-none, carry-more, carry-wrong, carry-done}
+use Rattle.unpacking1.proofs.Packet.{Carrying, carry-none, carry-more, carry-wrong, carry-done}
 use Rattle.unpacking1.proofs.open_carriers.Statement.{statement}
 use Rattle.unpacking1.proofs.open_carriers.Tie as tie
 
+-- what holds at each turn
 abbrev Inv-loop : tie.InvT-loop
 Inv-loop us₀ from stop to f₀ o₀ us f o = Carrying us₀ us from stop to f o
 
+-- the bytes left
 abbrev μ-loop : tie.MeasureT-loop
 μ-loop us₀ from stop to f₀ o₀ us f o = stop - f
 
 loop-holds : tie.Need-loop-holds Inv-loop μ-loop
-loop-holds c = carry-none (c .args .us .now) (c .args .from) (c .args .stop) (c .args .to) (c .pre .0) (c .pre .1)
+loop-holds c = carry-none (c .pre .0) (c .pre .1)
 
 slice-read-if1 : tie.Need-slice-read-if1 Inv-loop μ-loop
 slice-read-if1 c = search needs
@@ -21,8 +26,11 @@ slice-read-if1 c = search needs
 same-length : tie.Need-same-length Inv-loop μ-loop
 same-length c = c .before .before .before .loop .inv .long
 
+-- no carrier
 returns : tie.Need-returns Inv-loop μ-loop
-returns c = carry-wrong (c .before .before .before .before .args .us .now) (c .before .before .before .loop .us) (c .before .before .before .before .args .from) (c .before .before .before .before .args .stop) (c .before .before .before .before .args .to) (c .before .before .before .loop .f) (c .before .before .before .loop .o) (c .before .before .before .before .pre .0 .all) (c .before .before .before .loop .inv) (c .before .before .loop-test .taken) (c .if1 .taken)
+returns c =
+    let i : tie.In-loop Inv-loop μ-loop = c .before .before in
+    carry-wrong (i .before .loop .inv) (i .loop-test .taken) (c .if1 .taken)
 
 add-a : tie.Need-add-a Inv-loop μ-loop
 add-a c = search needs
@@ -78,14 +86,19 @@ add-o c = search needs
 loop-less : tie.Need-loop-less Inv-loop μ-loop
 loop-less c = search needs
 
+-- one carrier more
 loop-again : tie.Need-loop-again Inv-loop μ-loop
-loop-again c = carry-more (c .before .before .before .before .before .before .before .before .args .us .now) (c .before .before .before .before .before .before .before .loop .us) (c .before .before .before .before .before .before .before .before .args .from) (c .before .before .before .before .before .before .before .before .args .stop) (c .before .before .before .before .before .before .before .before .args .to) (c .before .before .before .before .before .before .before .loop .f) (c .before .before .before .before .before .before .before .loop .o) (c .before .before .before .before .before .before .before .before .pre .0 .all) (c .before .before .before .before .before .before .before .loop .inv) (c .before .before .before .before .before .before .loop-test .taken) (c .before .before .before .before .if1 .left)
+loop-again c =
+    let e : tie.Else1 Inv-loop μ-loop = c .before .before .before .before in
+    let i : tie.In-loop Inv-loop μ-loop = e .before .before in
+    carry-more (i .before .loop .inv) (i .loop-test .taken) (e .if1 .left)
 
 same-length-2 : tie.Need-same-length-2 Inv-loop μ-loop
 same-length-2 c = c .before .loop .inv .long
 
+-- all of them
 returns-2 : tie.Need-returns-2 Inv-loop μ-loop
-returns-2 c = let w = c .before .before .pre .0 .one in carry-done (c .before .before .args .us .now) (c .before .loop .us) (c .before .before .args .from) (c .before .before .args .stop) (c .before .before .args .to) (c .before .loop .f) (c .before .loop .o) (c .before .before .pre .0 .all) (c .before .loop .inv) (c .loop-test .left) (omega arith) (c .before .before .pre .1)
+returns-2 c = carry-done (c .before .loop .inv) (c .loop-test .left)
 
 pub open-carriers-spec : {M : Type 1} → statement M
 open-carriers-spec =

@@ -1,11 +1,53 @@
-use borrow.Author.Tests.{not-true, not-false}
-use mathlib.Core.Path.{sym, _∙_}
+-- `unpacking1::open_packet` meets its contract: 14 by `packs_end`, by a pack that is no carrier, and by unused bytes that are not FFh;
+-- and the packet moved down.
+-- Assumes nothing.
+use Prim.Native.Nat.{ℕ}
+use mathlib.Core.Path.{_≡_, sym, _∙_}
 use native.Mathlib.Omega.{arith}
-use lib.ListN.{length-set}
-use Rattle.unpacking1.proofs.Laws.{headed-length, stop-is, inside, carriers-within, opened-shut, packet-shut, packet-opened, packet-not}
+use lib.ListN.{length, length-set}
 use borrow.Author.Needs.{needs}
+use borrow.Author.Tests.{not-true, not-false}
+use Rattle.unpacking1.specs.Open.{Within, PacksEnd}
+use Rattle.unpacking1.proofs.Packet.{headed-length, stop-is, stop-within, carriers-within, packet-not, opened-shut}
+use Rattle.unpacking1.proofs.Packet.{packet-shut, packet-opened}
 use Rattle.unpacking1.proofs.open_packet.Statement.{statement}
 use Rattle.unpacking1.proofs.open_packet.Tie as tie
+
+-- ---- what is known on the way
+
+-- where the packet's packs end was found
+module _ (c : tie.Else1) where
+  -- the call
+  abbrev start : tie.Start
+  start = c .before .before .before .before
+
+  -- where they end
+  abbrev stop : ℕ
+  stop = c .before .packs-end .result
+
+  -- whole packs stand there
+  packs : Within (start .args .us .now) (start .args .at) (start .args .total)
+  packs = start .pre .0
+
+  -- and the packet's end at `stop`
+  packs-end : PacksEnd (start .args .us .now) (start .args .at) (start .args .total) stop
+  packs-end = c .before .packs-end .ensures
+
+-- where the carriers were opened
+module _ (c : tie.After-open-carriers) where
+  -- what was known before
+  abbrev found : tie.Else1
+  found = c .before .before .before .before .before .before .before
+
+  -- where DC was read
+  abbrev read : tie.After-wide
+  read = c .before .before .before .before .before
+
+  -- there are as many bytes as at the start
+  after-long : length (c .open-carriers .last .0) ≡ length (start found .args .us .now)
+  after-long = let a = start found .args in c .open-carriers .kept .0 ∙ headed-length (a .us .now) (a .at) (a .to)
+
+-- ---- the needs
 
 packs-end-requires : tie.Need-packs-end-requires
 packs-end-requires c κs = search needs
@@ -13,14 +55,20 @@ packs-end-requires c κs = search needs
 same-length : tie.Need-same-length
 same-length c = search needs
 
+-- 14
 returns : tie.Need-returns
-returns c = packet-not (c .before .before .before .before .args .us .now) (c .before .before .before .before .args .us .now) (c .before .before .before .before .args .at) (c .before .before .before .before .args .total) (c .before .before .before .before .args .to) (c .before .packs-end .ensures .shut (c .if1 .taken))
+returns c = packet-not (c .before .packs-end .ensures .shut (c .if1 .taken))
 
 add-wide : tie.Need-add-wide
 add-wide c = search needs
 
+-- DC is in the first carrier
 slice-read-wide : tie.Need-slice-read-wide
-slice-read-wide c = let p = stop-is (c .before .before .before .before .before .args .us .now) (c .before .before .before .before .before .args .at) (c .before .before .before .before .before .args .total) (c .before .before .packs-end .result) (c .before .before .before .before .before .args .to) (c .before .before .before .before .before .pre .0) (c .before .before .packs-end .ensures) (c .before .if1 .left) (c .before .before .before .before .before .pre .1) in let i = inside (c .before .before .before .before .before .args .us .now) (c .before .before .before .before .before .args .at) (c .before .before .before .before .before .args .total) (c .before .before .packs-end .result) (c .before .before .before .before .before .args .to) (c .before .before .before .before .before .pre .0) (c .before .before .packs-end .ensures) (c .before .if1 .left) (c .before .before .before .before .before .pre .1) in omega arith
+slice-read-wide c =
+    let e : tie.Else1 = c .before in
+    let p = stop-is (packs e) (packs-end e) (e .if1 .left) in
+    let i = stop-within (packs e) (packs-end e) (e .if1 .left) in
+    omega arith
 
 wide-requires : tie.Need-wide-requires
 wide-requires c κs = search needs
@@ -83,13 +131,20 @@ add-open-carriers-2 : tie.Need-add-open-carriers-2
 add-open-carriers-2 c = search needs
 
 open-carriers-requires : tie.Need-open-carriers-requires
-open-carriers-requires c κs = (carriers-within (c .before .before .before .before .before .before .before .before .before .before .args .us .now) (c .before .before .before .before .before .before .before .before .before .before .args .at) (c .before .before .before .before .before .before .before .before .before .before .args .total) (c .before .before .before .before .before .before .before .packs-end .result) (c .before .before .before .before .before .before .before .before .before .before .args .to) (c .before .before .before .before .before .before .before .before .before .before .pre .0) (c .before .before .before .before .before .before .before .packs-end .ensures) (c .before .before .before .before .before .before .if1 .left) (c .before .before .before .before .before .before .before .before .before .before .pre .1), omega arith)
+open-carriers-requires c κs =
+    let e : tie.Else1 = c .before .before .before .before .before .before in
+    (carriers-within (packs e) (packs-end e) (e .if1 .left) (start e .pre .2), omega arith)
 
 same-length-2 : tie.Need-same-length-2
-same-length-2 c = c .before .before .before .open-carriers .kept .0 ∙ headed-length (c .before .before .before .before .before .before .before .before .before .before .before .before .before .before .args .us .now) (c .before .before .before .before .before .before .before .before .before .before .before .before .before .before .args .at) (c .before .before .before .before .before .before .before .before .before .before .before .before .before .before .args .to)
+same-length-2 c = after-long (c .before .before .before)
 
+-- 14: a pack is no carrier
 returns-2 : tie.Need-returns-2
-returns-2 c = packet-not (c .before .before .before .before .before .before .before .before .before .before .before .before .before .before .args .us .now) (c .before .before .before .open-carriers .last .0) (c .before .before .before .before .before .before .before .before .before .before .before .before .before .before .args .at) (c .before .before .before .before .before .before .before .before .before .before .before .before .before .before .args .total) (c .before .before .before .before .before .before .before .before .before .before .before .before .before .before .args .to) (opened-shut (c .before .before .before .before .before .before .before .before .before .before .before .before .before .before .args .us .now) (c .before .before .before .before .before .before .before .before .before .before .before .before .before .before .args .at) (c .before .before .before .before .before .before .before .before .before .before .before .before .before .before .args .total) (c .before .before .before .before .before .before .before .before .before .before .before .packs-end .result) (c .before .before .before .before .before .before .before .before .before .before .before .before .before .before .args .to) (c .before .before .before .before .before .before .before .before .before .before .before .before .before .before .pre .0) (c .before .before .before .before .before .before .before .before .before .before .before .packs-end .ensures) (c .before .before .before .before .before .before .before .before .before .before .if1 .left) (c .before .before .before .before .before .before .before .before .before .before .before .before .before .before .pre .1) (c .before .before .before .open-carriers .last .0) (c .before .before .before .open-carriers .result) (c .before .before .before .open-carriers .ensures) (not-true (c .before .before .before .open-carriers .result) (c .if2 .taken)))
+returns-2 c =
+    let o : tie.After-open-carriers = c .before .before .before in
+    let e = found o in
+    let r = o .open-carriers in
+    opened-shut (packs e) (packs-end e) (e .if1 .left) (start e .pre .2) (r .ensures) (not-true (r .result) (c .if2 .taken))
 
 sub-all-fill : tie.Need-sub-all-fill
 sub-all-fill c = search needs
@@ -97,23 +152,47 @@ sub-all-fill c = search needs
 part-all-fill-start : tie.Need-part-all-fill-start
 part-all-fill-start c = search needs
 
+-- the bytes of the carriers are there, unused ones too
 part-all-fill-end : tie.Need-part-all-fill-end
-part-all-fill-end c = let p = stop-is (c .before .before .before .before .before .before .before .before .before .before .before .before .before .before .before .args .us .now) (c .before .before .before .before .before .before .before .before .before .before .before .before .before .before .before .args .at) (c .before .before .before .before .before .before .before .before .before .before .before .before .before .before .before .args .total) (c .before .before .before .before .before .before .before .before .before .before .before .before .packs-end .result) (c .before .before .before .before .before .before .before .before .before .before .before .before .before .before .before .args .to) (c .before .before .before .before .before .before .before .before .before .before .before .before .before .before .before .pre .0) (c .before .before .before .before .before .before .before .before .before .before .before .before .packs-end .ensures) (c .before .before .before .before .before .before .before .before .before .before .before .if1 .left) (c .before .before .before .before .before .before .before .before .before .before .before .before .before .before .before .pre .1) in let q = c .before .before .before .before .before .before .before .before .before .wide .ensures .0 in let i = inside (c .before .before .before .before .before .before .before .before .before .before .before .before .before .before .before .args .us .now) (c .before .before .before .before .before .before .before .before .before .before .before .before .before .before .before .args .at) (c .before .before .before .before .before .before .before .before .before .before .before .before .before .before .before .args .total) (c .before .before .before .before .before .before .before .before .before .before .before .before .packs-end .result) (c .before .before .before .before .before .before .before .before .before .before .before .before .before .before .before .args .to) (c .before .before .before .before .before .before .before .before .before .before .before .before .before .before .before .pre .0) (c .before .before .before .before .before .before .before .before .before .before .before .before .packs-end .ensures) (c .before .before .before .before .before .before .before .before .before .before .before .if1 .left) (c .before .before .before .before .before .before .before .before .before .before .before .before .before .before .before .pre .1) in let l = c .before .before .before .before .open-carriers .kept .0 ∙ headed-length (c .before .before .before .before .before .before .before .before .before .before .before .before .before .before .before .args .us .now) (c .before .before .before .before .before .before .before .before .before .before .before .before .before .before .before .args .at) (c .before .before .before .before .before .before .before .before .before .before .before .before .before .before .before .args .to) in omega arith
+part-all-fill-end c =
+    let o : tie.After-open-carriers = c .before .before .before .before in
+    let e = found o in
+    let p = stop-is (packs e) (packs-end e) (e .if1 .left) in
+    let i = stop-within (packs e) (packs-end e) (e .if1 .left) in
+    let d = read o .wide .ensures .0 in
+    let l = after-long o in
+    omega arith
 
 all-fill-requires : tie.Need-all-fill-requires
 all-fill-requires c κs = search needs
 
 same-length-3 : tie.Need-same-length-3
-same-length-3 c = c .before .before .before .before .before .before .before .open-carriers .kept .0 ∙ headed-length (c .before .before .before .before .before .before .before .before .before .before .before .before .before .before .before .before .before .before .args .us .now) (c .before .before .before .before .before .before .before .before .before .before .before .before .before .before .before .before .before .before .args .at) (c .before .before .before .before .before .before .before .before .before .before .before .before .before .before .before .before .before .before .args .to)
+same-length-3 c = after-long (c .before .before .before .before .before .before .before)
 
+-- 14: unused bytes are not FFh
 returns-3 : tie.Need-returns-3
-returns-3 c = packet-not (c .before .before .before .before .before .before .before .before .before .before .before .before .before .before .before .before .before .before .args .us .now) (c .before .before .before .before .before .before .before .open-carriers .last .0) (c .before .before .before .before .before .before .before .before .before .before .before .before .before .before .before .before .before .before .args .at) (c .before .before .before .before .before .before .before .before .before .before .before .before .before .before .before .before .before .before .args .total) (c .before .before .before .before .before .before .before .before .before .before .before .before .before .before .before .before .before .before .args .to) (packet-shut (c .before .before .before .before .before .before .before .before .before .before .before .before .before .before .before .before .before .before .args .us .now) (c .before .before .before .before .before .before .before .before .before .before .before .before .before .before .before .before .before .before .args .at) (c .before .before .before .before .before .before .before .before .before .before .before .before .before .before .before .before .before .before .args .total) (c .before .before .before .before .before .before .before .before .before .before .before .before .before .before .before .packs-end .result) (c .before .before .before .before .before .before .before .before .before .before .before .before .before .before .before .before .before .before .args .to) (c .before .before .before .before .before .before .before .before .before .before .before .before .before .before .before .before .before .before .pre .0) (c .before .before .before .before .before .before .before .before .before .before .before .before .before .before .before .packs-end .ensures) (c .before .before .before .before .before .before .before .before .before .before .before .before .before .before .if1 .left) (c .before .before .before .before .before .before .before .before .before .before .before .before .before .before .before .before .before .before .pre .1) (c .before .before .before .before .before .before .before .open-carriers .last .0) (c .before .before .before .before .before .before .before .open-carriers .result) (c .before .before .before .before .before .before .before .open-carriers .ensures) (not-false (c .before .before .before .before .before .before .before .open-carriers .result) (c .before .before .before .before .if2 .left)) (c .before .before .before .before .before .before .before .before .before .before .before .before .wide .result) (c .before .before .before .before .before .before .before .before .before .before .before .before .wide .ensures .0) (sym (c .before .all-fill .ensures) ∙ not-true (c .before .all-fill .result) (c .if3 .taken)))
+returns-3 c =
+    let o : tie.After-open-carriers = c .before .before .before .before .before .before .before in
+    let e = found o in
+    let r = o .open-carriers in
+    let all = not-false (r .result) (c .before .before .before .before .if2 .left) in
+    let f = c .before .all-fill in
+    packet-shut (packs e) (packs-end e) (e .if1 .left) (start e .pre .2) (r .ensures) all (read o .wide .ensures .0)
+    (sym (f .ensures) ∙ not-true (f .result) (c .if3 .taken))
 
 same-length-4 : tie.Need-same-length-4
-same-length-4 c = c .before .before .before .before .before .before .before .open-carriers .kept .0 ∙ headed-length (c .before .before .before .before .before .before .before .before .before .before .before .before .before .before .before .before .before .before .args .us .now) (c .before .before .before .before .before .before .before .before .before .before .before .before .before .before .before .before .before .before .args .at) (c .before .before .before .before .before .before .before .before .before .before .before .before .before .before .before .before .before .before .args .to)
+same-length-4 c = after-long (c .before .before .before .before .before .before .before)
 
+-- the packet
 returns-4 : tie.Need-returns-4
-returns-4 c = packet-opened (c .before .before .before .before .before .before .before .before .before .before .before .before .before .before .before .before .before .before .args .us .now) (c .before .before .before .before .before .before .before .before .before .before .before .before .before .before .before .before .before .before .args .at) (c .before .before .before .before .before .before .before .before .before .before .before .before .before .before .before .before .before .before .args .total) (c .before .before .before .before .before .before .before .before .before .before .before .before .before .before .before .packs-end .result) (c .before .before .before .before .before .before .before .before .before .before .before .before .before .before .before .before .before .before .args .to) (c .before .before .before .before .before .before .before .before .before .before .before .before .before .before .before .before .before .before .pre .0) (c .before .before .before .before .before .before .before .before .before .before .before .before .before .before .before .packs-end .ensures) (c .before .before .before .before .before .before .before .before .before .before .before .before .before .before .if1 .left) (c .before .before .before .before .before .before .before .before .before .before .before .before .before .before .before .before .before .before .pre .1) (c .before .before .before .before .before .before .before .open-carriers .last .0) (c .before .before .before .before .before .before .before .open-carriers .result) (c .before .before .before .before .before .before .before .open-carriers .ensures) (not-false (c .before .before .before .before .before .before .before .open-carriers .result) (c .before .before .before .before .if2 .left)) (c .before .before .before .before .before .before .before .before .before .before .before .before .wide .result) (c .before .before .before .before .before .before .before .before .before .before .before .before .wide .ensures .0) (sym (c .before .all-fill .ensures) ∙ not-false (c .before .all-fill .result) (c .if3 .left))
+returns-4 c =
+    let o : tie.After-open-carriers = c .before .before .before .before .before .before .before in
+    let e = found o in
+    let r = o .open-carriers in
+    let all = not-false (r .result) (c .before .before .before .before .if2 .left) in
+    let f = c .before .all-fill in
+    packet-opened (packs e) (packs-end e) (e .if1 .left) (start e .pre .2) (r .ensures) all (read o .wide .ensures .0)
+    (sym (f .ensures) ∙ not-false (f .result) (c .if3 .left))
 
 pub open-packet-spec : {M : Type 1} → statement M
 open-packet-spec =

@@ -16,10 +16,11 @@ use Rattle.unpacking1.proofs.Laws.{
   opening-none,
   opening-done,
   opening-more,
+  packet-left,
   packet-within,
   size-within,
   size-below,
-  next-is,
+  left-falls,
   refused-opens,
   refused-five,
   refused-fourteen,
@@ -29,6 +30,7 @@ use Rattle.unpacking1.proofs.Laws.{
 use Rattle.unpacking1.proofs.open_packets.Statement.{statement}
 use Rattle.unpacking1.proofs.open_packets.Tie as tie
 
+-- what holds at each turn
 abbrev Inv-loop : tie.InvT-loop
 Inv-loop last us₀ total fill r₀ w₀ k₀ us r w k = Opening (last .0) us₀ us total fill r w k
 
@@ -43,9 +45,11 @@ abbrev Opened : Type 0
 Opened = tie.After-open-packet Inv-loop μ-loop
 
 module _ (o : Opened) where
+  -- the loop's turn
   abbrev turn : tie.At-loop Inv-loop μ-loop
   turn = o .before .before .before
 
+  -- the packet's number
   abbrev k : ℕ
   k = turn .loop .k
 
@@ -53,6 +57,7 @@ module _ (o : Opened) where
   goes : turn .loop .r < turn .before .before .args .fill
   goes = o .before .before .loop-test .taken
 
+  -- there are as many bytes as at the start
   after-long : length (o .open-packet .last .0) ≡ length (turn .before .before .args .us .now)
   after-long = o .open-packet .kept .0 ∙ turn .loop .inv .long
 
@@ -65,9 +70,11 @@ abbrev Whole : Type 0
 Whole = tie.Else2 Inv-loop μ-loop
 
 module _ (h : Whole) where
+  -- the packet
   abbrev opened : Opened
   opened = h .before .before .before .before
 
+  -- it is not one too many
   not-full : k opened ≡ limit → ⊥
   unfolding limit
   not-full = h .before .if1 .left
@@ -77,16 +84,20 @@ abbrev Judged : Type 0
 Judged = tie.After-fault Inv-loop μ-loop
 
 module _ (j : Judged) where
+  -- what was known before
   abbrev whole : Whole
   whole = j .before .before .before .before .before
 
 -- ---- the needs
 
 loop-holds : tie.Need-loop-holds Inv-loop μ-loop
-loop-holds c = let p = c .before .pre in opening-none _ _ _ _ (omega arith) (p .0 .0) (p .1 .0)
+loop-holds c = let p = c .before .pre in opening-none _ _ _ _ (p .0 .0) (p .1 .0)
 
 open-packet-requires : tie.Need-open-packet-requires Inv-loop μ-loop
-open-packet-requires c κs = let v = c .before .before .loop .inv in (packet-within v (c .before .loop-test .taken), v .low)
+open-packet-requires c κs =
+    let v = c .before .before .loop .inv in
+    let t = c .before .loop-test .taken in
+    (packet-within v t, packet-left v t, v .low)
 
 refusal-requires : tie.Need-refusal-requires Inv-loop μ-loop
 refusal-requires c κs = search needs
@@ -128,7 +139,7 @@ slice-read-wide c =
     let a = size-within v (goes o) (not-full h) (o .open-packet .ensures) (h .if2 .left) in
     let b = o .open-packet .ensures .within in
     let l = after-long o in
-    let m = v .room in
+    let m = v .packs .all in
     omega arith
 
 wide-requires : tie.Need-wide-requires Inv-loop μ-loop
@@ -155,7 +166,7 @@ part-fault-end c =
     let a = size-below v (goes o) (not-full h) (o .open-packet .ensures) (h .if2 .left) (c .before .wide .ensures .0) in
     let b = o .open-packet .ensures .within in
     let l = after-long o in
-    let m = v .room in
+    let m = v .packs .all in
     omega arith
 
 fault-requires : tie.Need-fault-requires Inv-loop μ-loop
@@ -187,8 +198,7 @@ loop-less : tie.Need-loop-less Inv-loop μ-loop
 loop-less c =
     let h : Whole = whole (c .before) in
     let o = opened h in
-    let n = next-is (turn o .loop .inv) (goes o) (not-full h) (o .open-packet .ensures) (h .if2 .left) in
-    omega arith
+    left-falls (turn o .loop .inv) (goes o) (not-full h) (o .open-packet .ensures) (h .if2 .left)
 
 -- one packet more
 loop-again : tie.Need-loop-again Inv-loop μ-loop

@@ -10,7 +10,7 @@ use Rattle.rules.specs.Systems.{System}
 use Rattle.rules.specs.Sheet.{limit}
 use Rattle.rules.specs.Packing2.{Opened}
 use Rattle.rules.specs.Numbers.{packetsIn}
-use Rattle.rules.specs.Reading.{stringRow, packetsOfOpened}
+use Rattle.rules.specs.Reading.{stringRow}
 use Rattle.packing2.specs.Unlong.{openedFrom}
 use Rattle.vanc.specs.Read.{Coded}
 use Rattle.vanc.proofs.ReadLaws.{frame-of, back-refused, back-of, long-coded, long-shut, long-open, long-len, long-string, long-within}
@@ -27,13 +27,13 @@ open-long-requires c κs = search needs
 refusal-requires : tie.Need-refusal-requires
 refusal-requires c κs = search needs
 
+-- 13
 returns : tie.Need-returns
 returns c =
-    let a = c .before .before .before .before .before .args in
     let o = c .before .before .open-long in
     λ y e.
     let s = long-shut y (found (c .before .before)) (o .result) (o .last .1 .0) (o .ensures) (c .before .if1 .taken) in
-    back-refused (a .system) 2 (a .sheet .now) (packetsOfOpened y (found (c .before .before))) 13 0 (c .refusal .result) s (c .refusal .ensures)
+    back-refused s (c .refusal .ensures)
 
 validate-requires : tie.Need-validate-requires
 validate-requires c κs = search needs
@@ -70,6 +70,7 @@ decoded-requires c κs = frame-of _ (start (c .before .before) .pre .0) .low
 same-length : tie.Need-same-length
 same-length c = search needs
 
+-- a string, and its number
 returns-2 : tie.Need-returns-2
 returns-2 c =
     let v : tie.After-validate = c .before .before .before .before .before in

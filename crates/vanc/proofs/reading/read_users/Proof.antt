@@ -11,7 +11,8 @@ use borrow.Author.Tests.{not-true, not-false}
 use Rattle.rules.specs.Base.{sum}
 use Rattle.rules.specs.Systems.{known, system}
 use Rattle.rules.specs.Blocks.{blockSizes}
-use Rattle.vanc.proofs.ReadLaws.{Frame, frame-of, back-refused, back-of, users-fives, users-long, users-fill, users-mixed, users-other, none-shown}
+use Rattle.vanc.proofs.ReadLaws.{Frame, frame-of, back-refused, back-of}
+use Rattle.vanc.proofs.ReadLaws.{users-fives, users-long, users-fill, users-mixed, users-other, none-shown}
 use Rattle.vanc.proofs.reading.read_users.Statement.{statement}
 use Rattle.vanc.proofs.reading.read_users.Tie as tie
 
@@ -43,6 +44,14 @@ module _ (c : tie.After-shared-slice-known) where
 
   line : start .args .last .0 < 2047
   line = let h = frame .last in let q = start .pre .2 in omega arith
+
+-- what is known where the first user byte is FFh and all were tested
+module _ (c : tie.After-all-fill) where
+  abbrev first : tie.Else3
+  first = c .before .before
+
+  abbrev entry : tie.After-shared-slice-known
+  entry = first .before .before .before
 
 shared-slice-read-first : tie.Need-shared-slice-read-first
 shared-slice-read-first c = search needs
@@ -85,7 +94,7 @@ returns-3 c =
     let not1 = c .before .before .before .if1 .left in
     let not3 = c .before .before .if2 .left in
     let u = users-other (sys b) (total b) (us b) (is-known b) (is-total b) (long b) not1 not3 (c .before .if3 .taken) in
-    back-refused (sys b) _ (start b .args .sheet .now) _ 13 0 (c .refusal .result) u (c .refusal .ensures)
+    back-refused u (c .refusal .ensures)
 
 slice-aggregate-all-fill : tie.Need-slice-aggregate-all-fill
 slice-aggregate-all-fill c =
@@ -104,14 +113,15 @@ refusal-requires-2 c κs = search needs
 -- FFh, and another byte is not
 returns-4 : tie.Need-returns-4
 returns-4 c =
-    let b : tie.After-shared-slice-known = c .before .before .before .before .before .before .before in
-    let w = c .before .before .all-fill in
+    let a : tie.After-all-fill = c .before .before in
+    let b = entry a in
+    let w = a .all-fill in
     let f = sym (w .ensures) ∙ not-true (w .result) (c .before .if4 .taken) in
-    let u = users-mixed (sys b) (total b) (us b) (is-known b) (is-total b) (long b) (c .before .before .before .before .if3 .left) f in
-    back-refused (sys b) _ (start b .args .sheet .now) _ 13 0 (c .refusal2 .result) u (c .refusal2 .ensures)
+    let u = users-mixed (sys b) (total b) (us b) (is-known b) (is-total b) (long b) (first a .if3 .left) f in
+    back-refused u (c .refusal2 .ensures)
 
 written-requires : tie.Need-written-requires
-written-requires c κs = let b : tie.After-shared-slice-known = c .before .before .before .before .before .before .before .before in frame b .low
+written-requires c κs = frame (entry (c .before .before .before)) .low
 
 same-length-3 : tie.Need-same-length-3
 same-length-3 c = search needs
@@ -119,11 +129,12 @@ same-length-3 c = search needs
 -- FFh, and so is every other
 returns-5 : tie.Need-returns-5
 returns-5 c =
-    let b : tie.After-shared-slice-known = c .before .before .before .before .before .before .before .before .before .before .before in
-    let w = c .before .before .before .before .before .before .all-fill in
-    let f = sym (w .ensures) ∙ not-false (w .result) (c .before .before .before .before .before .if4 .left) in
-    let first = c .before .before .before .before .before .before .before .before .if3 .left in
-    let u = users-fill (sys b) (total b) (us b) (is-known b) (is-total b) (long b) first f in
+    let d : tie.Else4 = c .before .before .before .before .before in
+    let a : tie.After-all-fill = d .before in
+    let b = entry a in
+    let w = a .all-fill in
+    let f = sym (w .ensures) ∙ not-false (w .result) (d .if4 .left) in
+    let u = users-fill (sys b) (total b) (us b) (is-known b) (is-total b) (long b) (first a .if3 .left) f in
     back-of (u .0) (u .1) (c .before .before .written .ensures [] none-shown refl)
 
 pub read-users-spec : {M : Type 1} → statement M

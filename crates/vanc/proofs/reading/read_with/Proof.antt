@@ -1,5 +1,7 @@
 -- `vanc::reading::read_with` meets its contract, which follows from what is given back: 3, 4, and what the user bytes say.
 -- Assumes nothing.
+use Prim.Native.Nat.{ℕ}
+use mathlib.Core.List.{List}
 use borrow.Author.Needs.{needs}
 use Rattle.rules.specs.Base.{Bytes}
 use Rattle.frame.proofs.Laws.{last-is, is-known}
@@ -7,9 +9,37 @@ use Rattle.vanc.proofs.ReadLaws.{unknown-reads, other-reads, own-total,
 use Rattle.vanc.proofs.reading.read_with.Statement.{statement}
 use Rattle.vanc.proofs.reading.read_with.Tie as tie
 
--- the area's numbers are bytes
-bytes : (c : tie.After-figures-of) → Bytes (c .before .before .before .args .area .now)
-bytes c = λ i. c .before .before .shared-slice-known .given i .fits
+-- ---- what is known on the way
+
+-- where the figures were found
+module _ (c : tie.After-figures-of) where
+  abbrev start : tie.Start
+  start = c .before .before .before
+
+  abbrev sys : ℕ
+  sys = start .args .system
+
+  abbrev area : List ℕ
+  area = start .args .area .now
+
+  -- the area's numbers are bytes
+  bytes : Bytes area
+  bytes = λ i. c .before .before .shared-slice-known .given i .fits
+
+-- where the user bytes were taken out
+module _ (c : tie.After-collect) where
+  -- the area is the system's own
+  abbrev own : tie.Else2
+  own = c .before .before
+
+  -- the system is known
+  abbrev some : tie.Else1
+  some = own .before .before
+
+  abbrev found : tie.After-figures-of
+  found = some .before .before
+
+-- ---- the needs
 
 figures-of-requires : tie.Need-figures-of-requires
 figures-of-requires c κs = search needs
@@ -21,9 +51,7 @@ refusal-requires c κs = search needs
 returns : tie.Need-returns
 returns c =
     let b : tie.After-figures-of = c .before .before .before in
-    let a = c .before .before .before .before .before .before .args in
-    let x = b .figures-of in
-    unknown-reads (a .system) (a .area .now) (x .result) (x .ensures) (bytes b) (a .sheet .now) (c .refusal .result) (c .before .if1 .taken) (c .refusal .ensures)
+    unknown-reads (sys b) (area b) (b .figures-of .ensures) (bytes b) (c .before .if1 .taken) (c .refusal .ensures)
 
 refusal-requires-2 : tie.Need-refusal-requires-2
 refusal-requires-2 c κs = search needs
@@ -31,26 +59,22 @@ refusal-requires-2 c κs = search needs
 -- 4
 returns-2 : tie.Need-returns-2
 returns-2 c =
-    let b : tie.After-figures-of = c .before .before .before .before .before in
-    let a = c .before .before .before .before .before .before .before .before .args in
-    let x = b .figures-of in
-    let some = c .before .before .before .if1 .left in
-    other-reads (a .system) (a .area .now) (x .result) (x .ensures) some (bytes b) (a .sheet .now) (c .refusal2 .result) (c .before .if2 .taken) (c .refusal2 .ensures)
+    let e : tie.Else1 = c .before .before .before in
+    let b : tie.After-figures-of = e .before .before in
+    other-reads (sys b) (area b) (b .figures-of .ensures) (bytes b) (e .if1 .left) (c .before .if2 .taken) (c .refusal2 .ensures)
 
 collect-requires : tie.Need-collect-requires
 collect-requires c κs = search needs
 
 read-users-requires : tie.Need-read-users-requires
 read-users-requires c κs =
-    let sys = c .before .before .before .before .before .before .before .before .before .before .before .args .system in
-    let area = c .before .before .before .before .before .before .before .before .before .before .before .args .area .now in
-    let x = c .before .before .before .before .before .before .before .before .figures-of in
-    let some = c .before .before .before .before .before .before .if1 .left in
-    let own = c .before .before .before .before .if2 .left in
-    let o = c .before .before .collect in (
-      is-known sys (x .result) (x .ensures) some,
-      own-total sys area (x .result) (x .ensures) some own (o .result) (o .ensures .0),
-      last-is sys (x .result) (x .ensures),
+    let o : tie.After-collect = c .before .before in
+    let b = found o in
+    let x = b .figures-of in
+    let k = some o .if1 .left in (
+      is-known (sys b) (x .result) (x .ensures) k,
+      own-total (sys b) (area b) (x .ensures) (bytes b) k (own o .if2 .left) (o .collect .ensures .0),
+      last-is (sys b) (x .result) (x .ensures),
     )
 
 same-length : tie.Need-same-length
@@ -59,16 +83,10 @@ same-length c = search needs
 -- the user bytes
 returns-3 : tie.Need-returns-3
 returns-3 c =
-    let b : tie.After-figures-of = c .before .before .before .before .before .before .before .before .before .before .before in
-    let a = c .before .before .before .before .before .before .before .before .before .before .before .before .before .before .args in
-    let x = b .figures-of in
-    let o = c .before .before .before .before .before .collect in
-    let u = c .before .before .read-users in
-    let some = c .before .before .before .before .before .before .before .before .before .if1 .left in
-    let own = c .before .before .before .before .before .before .before .if2 .left in
-    own-reads (a .system) (a .area .now) (x .result) (x .ensures) some own (o .result) (o .ensures .0)
-    (a .us .now) (o .last .1 .1 .0) (o .ensures .1)
-    (bytes b) (a .sheet .now) (u .result) (u .last .1 .1 .1 .1 .0) (u .ensures)
+    let o : tie.After-collect = c .before .before .before .before .before in
+    let b = found o in
+    own-reads (sys b) (area b) (b .figures-of .ensures) (bytes b) (some o .if1 .left) (own o .if2 .left) (o .collect .ensures .0)
+    (start b .args .us .now) (o .collect .ensures .1) (c .before .before .read-users .ensures)
 
 pub read-with-spec : {M : Type 1} → statement M
 read-with-spec =
