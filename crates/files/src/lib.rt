@@ -85,39 +85,63 @@ pub fn path_argument(i: usize, name: &[u8], path: &mut [u8]) -> usize
     n
 }
 
-// More than any buffer has.
-pub const NOT_READ: usize = 18446744073709551615;
+// What came of reading a file: how many bytes stand at the start of the buffer, and whether no read failed.
+pub struct FileRead {
+    pub bytes: usize,
+    pub done: bool,
+}
 
-// Reads until the buffer is full or the file ends: how many bytes, or `NOT_READ` where a read fails.
-fn read_all(fd: i32, buf: &mut [u8]) -> usize {
+// Reads until the buffer is full or the file ends, or a read fails.
+fn read_all(fd: i32, buf: &mut [u8]) -> FileRead
+    ensures { λ r. ⌜ Counts (r .bytes) (now (buf .exit)) ⌝ }
+{
     let mut at = 0;
     while at < buf.len() {
         let got = libc::read(fd, &mut buf[at..]);
-        if got < 0 {
-            return NOT_READ;
-        }
         let n = io::count(got, &buf[at..]);
         if n == 0 {
-            return at;
+            return FileRead {
+                bytes: at,
+                done: 0 <= got,
+            };
         }
         at += n;
     }
-    at
+    FileRead {
+        bytes: at,
+        done: true,
+    }
 }
 
-// The bytes of a file, as many as the buffer has room for, at its start: how many. `NOT_READ` where it cannot be read, which is then said.
-pub fn read_file(path: &[u8], buf: &mut [u8]) -> usize {
+// The bytes of a file, as many as the buffer has room for, at its start. Where it cannot be read that is said.
+pub fn read_file(path: &[u8], buf: &mut [u8]) -> FileRead
+    ensures { λ r. ⌜ Counts (r .bytes) (now (buf .exit)) ⌝ }
+{
     let fd = os::open_read(path);
     if fd < 0 {
         os::fail(path);
-        return NOT_READ;
+        return FileRead {
+            bytes: 0,
+            done: false,
+        };
     }
-    let n = read_all(fd, buf);
-    if n == NOT_READ {
+    let r = read_all(fd, buf);
+    if !r.done {
         os::fail(path);
     }
     libc::close(fd);
-    n
+    r
+}
+
+// The next n bytes of an open file, at the start of a buffer: how many there are. Fewer than n where the file ends or a read fails, and none where
+// the buffer has not so much room.
+pub fn read_next(fd: i32, buf: &mut [u8], n: usize) -> usize
+    ensures { λ r. ⌜ Counts r (now (buf .exit)) ⌝ }
+{
+    if buf.len() < n {
+        return 0;
+    }
+    io::read_full(fd, &mut buf[..n])
 }
 
 // The name of the file that is written beside a file: its own and four bytes by chance, so that two runs do not meet.
@@ -171,10 +195,26 @@ pub fn replace_file(path: &[u8], bytes: &[u8]) -> bool {
     replace_by(path, &name[..n], bytes)
 }
 
+// Replaces a file by the first n of the bytes. False where there are not so many, or that fails, and the file is then as it was.
+pub fn replace_by_first(path: &[u8], bytes: &[u8], n: u64) -> bool {
+    let k = n as usize;
+    if bytes.len() < k {
+        return false;
+    }
+    replace_file(path, &bytes[..k])
+}
+
 // What is wrong with a file, or with how a program is called.
 pub fn say(what: &[u8], why: &[u8]) {
     io::write_all(STDERR_FILENO, what);
     io::write_all(STDERR_FILENO, why);
+}
+
+// What is wrong with a sheet file that has another length than a sheet's; of another file nothing.
+pub fn explain_sheet(path: &[u8], file: &[u8]) {
+    if !sheet_file::is_whole(file) {
+        say(path, b": an odd number of bytes, or more than 65536\n");
+    }
 }
 
 // A line of the result.
@@ -182,6 +222,13 @@ pub fn print(line: &[u8]) {
     if !io::write_all(STDOUT_FILENO, line) {
         os::fail(b"standard output");
     }
+}
+
+// A line of two numbers, each behind its label.
+pub fn print_two(first: &[u8], n: u64, second: &[u8], m: u64) {
+    let mut line = [0u8; 96];
+    let k = text::put_two(&mut line, first, n, second, m);
+    print(&line[..k]);
 }
 
 // "A refusal prints one line"

@@ -1,40 +1,23 @@
 // The lister's text on many files in one run: data/cases has them one after the other, each after its length in four bytes (made, with what is to be
 // printed, by tests/lister_cases.py).
-ghost use Prim.Native.Nat.{_≤_};
-ghost use lib.ListN.{length};
+use frame::wide;
 
-fn wide(x: u8) -> usize
-    ensures { λ r. ⌜ r ≤ 255 ⌝ }
-{
-    x as usize
-}
+// One byte more than the longest sheet, as in the lister.
+const ROOM: usize = sheet_file::LONGEST + 1;
 
-// A case's length, at most one more than the lister takes.
-fn size(head: &[u8; 4]) -> usize
-    ensures { λ r. ⌜ r ≤ 65537 ⌝ }
-{
+// A case's length, as far as there is room.
+fn size(head: &[u8; 4]) -> usize {
     let n = wide(head[1]) * 65536 + wide(head[2]) * 256 + wide(head[3]);
-    if 65537 < n {
-        return 65537;
+    if ROOM < n {
+        return ROOM;
     }
     n
 }
 
 fn show(file: &[u8]) {
-    let mut out = [0u8; 16384];
+    let mut out = [0u8; listing::ROOM];
     let k = listing::listing(file, &mut out);
     io::write_all(libc::STDOUT_FILENO, &out[..k]);
-}
-
-fn read_case(fd: i32, part: &mut [u8]) {
-    let n = io::read_full(fd, part);
-    show(&part[..n]);
-}
-
-fn read_first(fd: i32, file: &mut [u8], n: usize)
-    requires { ⌜ n ≤ length (now file) ⌝ }
-{
-    read_case(fd, &mut file[..n]);
 }
 
 // Lists the next case; false where there is none.
@@ -43,9 +26,9 @@ fn list_next(fd: i32) -> bool {
     if io::read_full(fd, &mut head) < 4 {
         return false;
     }
-    let n = size(&head);
-    let mut file = [0u8; 65537];
-    read_first(fd, &mut file, n);
+    let mut file = [0u8; ROOM];
+    let n = files::read_next(fd, &mut file, size(&head));
+    show(&file[..n]);
     true
 }
 

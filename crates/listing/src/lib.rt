@@ -7,9 +7,13 @@ ghost use Rattle.io.specs.Counts.{Counts};
 ghost use Rattle.rules.specs.Sheet.{systemIn};
 ghost use Rattle.rules.specs.Lister.{testedOf, numbersOf, listing as Lister·listing};
 use rules::Tested;
+use sheet_file::NUMBERS;
+
+// Room for the longest text: a first line, and 512 rows of at most 21 bytes.
+pub const ROOM: usize = 16384;
 
 // The lister's tests of a file, whose numbers then stand at the start of s.
-fn tested(file: &[u8], s: &mut [u16; 32768]) -> Tested
+fn tested(file: &[u8], s: &mut [u16; NUMBERS]) -> Tested
     ensures { λ r. ⌜ r ≡ testedOf (systemIn (numbersOf (now (file .entry)))) (Lister·listing (now (file .entry))) ⌝ }
 {
     let n = sheet_file::decode(file, s);
@@ -24,10 +28,6 @@ fn put_spaced(out: &mut [u8], at: usize, n: u64) -> usize
 {
     let o = text::put_number(out, at, n);
     text::put(out, o, b' ')
-}
-
-fn low(w: u16) -> u8 {
-    (w % 256) as u8
 }
 
 // "packet, line, flags"
@@ -57,7 +57,13 @@ fn put_row(out: &mut [u8], at: usize, s: &[u16], k: usize, l: usize, w: usize) -
     ensures { λ r. ⌜ Counts r (now (out .exit)) ⌝ }
 {
     let o = put_location(out, at, k as u64, s[l], s[l + 1]);
-    put_packet(out, o, low(s[w + 3]), low(s[w + 4]), low(s[w + 5]))
+    put_packet(
+        out,
+        o,
+        packet::low(s[w + 3]),
+        packet::low(s[w + 4]),
+        packet::low(s[w + 5]),
+    )
 }
 
 // A row for each packet of a sheet that has passed. (The two tests never fail then; they keep the loop safe on any numbers.)
@@ -77,7 +83,7 @@ fn put_rows(out: &mut [u8], from: usize, s: &[u16], packets: usize) -> usize
             return at;
         }
         at = put_row(out, at, s, k, l, w);
-        w += low(s[w + 5]) as usize + 7;
+        w += packet::low_byte(s[w + 5]) + 7;
         k += 1;
     }
     at
@@ -95,7 +101,7 @@ fn put_first(out: &mut [u8], t: Tested) -> usize
 }
 
 // The text of a file whose numbers stand in s.
-fn text_of(file: &[u8], s: &mut [u16; 32768], out: &mut [u8]) -> usize
+fn text_of(file: &[u8], s: &mut [u16; NUMBERS], out: &mut [u8]) -> usize
     ensures { λ r. ⌜ Counts r (now (out .exit)) ⌝ }
 {
     let t = tested(file, s);
@@ -104,7 +110,7 @@ fn text_of(file: &[u8], s: &mut [u16; 32768], out: &mut [u8]) -> usize
     }
     let at = put_first(out, t);
     let n = file.len() / 2;
-    if 32768 < n {
+    if NUMBERS < n {
         return at;
     }
     if 65535 < t.packets {
@@ -114,10 +120,10 @@ fn text_of(file: &[u8], s: &mut [u16; 32768], out: &mut [u8]) -> usize
     put_rows(out, at, &numbers[..n], t.packets as usize)
 }
 
-// The text of a file, at the start of out: how many bytes it has. 16,384 are enough for any: a first line, and 512 rows of at most 21 bytes.
+// The text of a file, at the start of out, as far as there is room: how many bytes it has.
 pub fn listing(file: &[u8], out: &mut [u8]) -> usize
     ensures { λ r. ⌜ Counts r (now (out .exit)) ⌝ }
 {
-    let mut s = [0u16; 32768];
+    let mut s = [0u16; NUMBERS];
     text_of(file, &mut s, out)
 }

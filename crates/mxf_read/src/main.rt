@@ -3,10 +3,14 @@
 ghost use mathlib.Core.Path.{_≡_};
 ghost use Prim.Native.Nat.{_*_, _≤_};
 ghost use lib.ListN.{length, take};
-ghost use Rattle.io.specs.Counts.{Counts};
 ghost use Rattle.rules.specs.Lister.{fileOf};
 ghost use Rattle.mxf.specs.Demands.{Reads};
 use mxf::ElementRead;
+use sheet_file::NUMBERS;
+
+// The bytes of the longest element file that is read. The longest element without padding that has a sheet file is of 36,882; the rest of the
+// room is for padding.
+const LONGEST: usize = 262144;
 
 // An element's packets as a sheet, and the bytes of its file.
 fn read_element(
@@ -19,61 +23,37 @@ fn read_element(
     requires { ⌜ 2 * length (now s) ≤ length (now file) ⌝ }
     ensures { λ r. ⌜ Reads system fi (now (element .entry)) (now (s .entry)) r (now (s .exit))
         × (take (2 * r .numbers) (now (file .exit)) ≡ fileOf (take (r .numbers) (now (s .exit)))) ⌝ }
+    ensures { λ r. ⌜ r .numbers ≤ length (now (s .exit)) ⌝ }
 {
     let r = mxf::read(system, fi, element, s);
     let n = r.numbers as usize;
-    sheet_file::encode(&s[..n], file);
+    sheet_file::encode(s, n, file);
     r
 }
 
-fn put_read(out: &mut [u8], r: ElementRead) -> usize
-    ensures { λ r. ⌜ Counts r (now (out .exit)) ⌝ }
-{
-    let a = text::put_labelled(out, 0, b"read packets ", r.packets);
-    let b = text::put_labelled(out, a, b" numbers ", r.numbers);
-    text::put(out, b, b'\n')
-}
-
-fn print_read(r: ElementRead) {
-    let mut line = [0u8; 96];
-    let n = put_read(&mut line, r);
-    files::print(&line[..n]);
-}
-
-// Writes the first `numbers` numbers of a sheet file's bytes.
-fn replace_sheet(sheet: &[u8], file: &[u8], r: ElementRead) {
-    if 32768 < r.numbers {
-        return;
-    }
-    let n = 2 * (r.numbers as usize);
-    if file.len() < n {
-        return;
-    }
-    if files::replace_file(sheet, &file[..n]) {
-        print_read(r);
-    }
-}
-
-// A sheet file has 32,768 numbers at most: a longer sheet, which no program would take, is 17.
+// A longer sheet than a sheet file can have, which no program would take, is 17.
 fn read_and_replace(system: u64, fi: bool, element: &[u8], sheet: &[u8]) {
-    let mut s = [0u16; 32768];
-    let mut file = [0u8; 65536];
+    let mut s = [0u16; NUMBERS];
+    let mut file = [0u8; sheet_file::LONGEST];
     let r = read_element(system, fi, element, &mut s, &mut file);
     if r.number != 0 {
         files::print_refusal(r.number, r.place);
         return;
     }
-    replace_sheet(sheet, &file, r);
+    if files::replace_by_first(sheet, &file, 2 * r.numbers) {
+        files::print_two(b"read packets ", r.packets, b" numbers ", r.numbers);
+    }
 }
 
-// The longest element without padding that has a sheet file is of 36,882 bytes; the rest of the room is for padding.
+// One byte more than the longest element file is read, so that a longer file is seen to be longer.
 fn read_files(system: u64, fi: bool, path: &[u8], sheet: &[u8]) {
-    let mut bytes = [0u8; 262145];
-    let n = files::read_file(path, &mut bytes);
-    if 262145 < n {
+    let mut bytes = [0u8; LONGEST + 1];
+    let e = files::read_file(path, &mut bytes);
+    if !e.done {
         return;
     }
-    if n == 262145 {
+    let n = e.bytes;
+    if LONGEST < n {
         files::say(
             path,
             b": longer than the 262144 bytes that this program reads\n",
@@ -83,12 +63,20 @@ fn read_files(system: u64, fi: bool, path: &[u8], sheet: &[u8]) {
     read_and_replace(system, fi, &bytes[..n], sheet);
 }
 
+fn usage() {
+    files::say(
+        b"mxf_read SYSTEM FI ELEMENT SHEET\n",
+        b"Reads the packets of the MXF ANC element (ST 436-1) in the file ELEMENT to the sheet file SHEET, ",
+    );
+    files::say(
+        b"which is made or replaced.\nSYSTEM is 1 (1080/60i), 2 (1080/50i) or 3 (720/60p). ",
+        b"FI is 0 or 1: the packets of a 720/60p element get it, those of a 1080 element get 0.\n",
+    );
+}
+
 fn main() {
     if os::arg_count() != 5 {
-        files::say(
-            b"mxf_read SYSTEM FI ELEMENT SHEET\n",
-            b"Reads the packets of the MXF ANC element (ST 436-1) in the file ELEMENT to the sheet file SHEET, which is made or replaced.\nSYSTEM is 1 (1080/60i), 2 (1080/50i) or 3 (720/60p). FI is 0 or 1: the packets of a 720/60p element get it, those of a 1080 element get 0.\n",
-        );
+        usage();
         return;
     }
     let system = files::number_argument(1, b"SYSTEM");

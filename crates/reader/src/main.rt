@@ -6,17 +6,23 @@ ghost use lib.ListN.{length, take};
 ghost use Rattle.io.specs.Counts.{Counts};
 ghost use Rattle.rules.specs.Demands.{Reads};
 ghost use Rattle.rules.specs.Lister.{fileOf};
+use frame::Hd1080x50i;
+use frame::LIMIT;
 use rules::ReadBack;
+
+// The numbers of the longest sheet that an area has: the most packets, and the words of the longest string.
+const NUMBERS: usize = 4 + 2 * LIMIT + Hd1080x50i::STRING;
 
 // An area's packets as a sheet, and the bytes of its file.
 fn read_area(system: u64, area: &[u8], s: &mut [u16], file: &mut [u8]) -> ReadBack
     requires { ⌜ 2 * length (now s) ≤ length (now file) ⌝ }
     ensures { λ r. ⌜ Reads system (now (area .entry)) (now (s .entry)) r (now (s .exit))
         × (take (2 * r .numbers) (now (file .exit)) ≡ fileOf (take (r .numbers) (now (s .exit)))) ⌝ }
+    ensures { λ r. ⌜ r .numbers ≤ length (now (s .exit)) ⌝ }
 {
     let r = vanc::read(system, area, s);
     let n = r.numbers as usize;
-    sheet_file::encode(&s[..n], file);
+    sheet_file::encode(s, n, file);
     r
 }
 
@@ -35,23 +41,9 @@ fn print_read(r: ReadBack) {
     files::print(&line[..n]);
 }
 
-// Writes the first `numbers` numbers of a sheet file's bytes.
-fn replace_sheet(sheet: &[u8], file: &[u8], r: ReadBack) {
-    if 9956 < r.numbers {
-        return;
-    }
-    let n = 2 * (r.numbers as usize);
-    if file.len() < n {
-        return;
-    }
-    if files::replace_file(sheet, &file[..n]) {
-        print_read(r);
-    }
-}
-
 fn read_and_replace(system: u64, area: &[u8], bytes: &[u8], sheet: &[u8]) {
-    let mut s = [0u16; 9956];
-    let mut file = [0u8; 19912];
+    let mut s = [0u16; NUMBERS];
+    let mut file = [0u8; 2 * NUMBERS];
     let r = read_area(system, bytes, &mut s, &mut file);
     if r.number != 0 {
         if r.number == 4 {
@@ -60,25 +52,36 @@ fn read_and_replace(system: u64, area: &[u8], bytes: &[u8], sheet: &[u8]) {
         files::print_refusal(r.number, r.place);
         return;
     }
-    replace_sheet(sheet, &file, r);
+    if files::replace_by_first(sheet, &file, 2 * r.numbers) {
+        print_read(r);
+    }
 }
 
-// One byte more than the largest area is read, so that a longer file is seen to be longer.
+// One byte more than the longest area is read, so that a longer file is seen to be longer.
 fn read_files(system: u64, area: &[u8], sheet: &[u8]) {
-    let mut bytes = [0u8; 11521];
-    let n = files::read_file(area, &mut bytes);
-    if 11521 < n {
+    let mut bytes = [0u8; Hd1080x50i::AREA + 1];
+    let a = files::read_file(area, &mut bytes);
+    if !a.done {
         return;
     }
+    let n = a.bytes;
     read_and_replace(system, area, &bytes[..n], sheet);
+}
+
+fn usage() {
+    files::say(
+        b"reader SYSTEM AREA SHEET\n",
+        b"Reads the packets of the area in the file AREA to the sheet file SHEET, which is made or replaced.\n",
+    );
+    files::say(
+        b"SYSTEM",
+        b" is 1 (1080/60i), 2 (1080/50i) or 3 (720/60p).\n",
+    );
 }
 
 fn main() {
     if os::arg_count() != 4 {
-        files::say(
-            b"reader SYSTEM AREA SHEET\n",
-            b"Reads the packets of the area in the file AREA to the sheet file SHEET, which is made or replaced.\nSYSTEM is 1 (1080/60i), 2 (1080/50i) or 3 (720/60p).\n",
-        );
+        usage();
         return;
     }
     let system = files::number_argument(1, b"SYSTEM");

@@ -4,17 +4,18 @@
 -- Assumes nothing.
 use Prim.Native.Nat.{ℕ, zero, suc, _+_, _*_, _/_, _%_, _≤_, _<_}
 use mathlib.Core.Path.{_≡_, refl, sym, ap, ap₂, _∙_}
-use mathlib.Core.Bool.{and-false}
+use mathlib.Core.Bool.{true, false}
 use mathlib.Core.List.{List, [], _∷_}
 use native.Mathlib.Numerals.{add-one}
 use native.Mathlib.Omega.{arith}
-use lib.Dec.{leb}
+use lib.Dec.{eqb, leb}
 use lib.ListN.{length, getD, take, set, length-set}
 use lib.Seq.{take-suc, take-all, take-suc-set, length-take-le}
-use borrow.Author.Tests.{eq-eqb, ne-eqb, le-leb, lt-leb}
+use borrow.Author.Tests.{leb-true, le-leb, lt-leb}
 use Rattle.rules.specs.Lister.{fileOf, numbersOf}
+use Rattle.rules.proofs.Basics.{both}
 use Rattle.rules.proofs.Lister.{file-length}
-use Rattle.sheet_file.specs.Files.{sheetIn, fileIn}
+use Rattle.sheet_file.specs.Files.{isWhole, sheetIn, fileIn}
 
 -- ---- decoding
 
@@ -96,26 +97,35 @@ file-none s file h = rw (lt-leb (2 * length s) (length file) (omega arith)) (ref
 -- ---- the file's length
 
 module _ (file : List ℕ) where
-  pub too-long : 65536 < length file → sheetIn file ≡ []
-  unfolding sheetIn
+  pub too-long : 65536 < length file → false ≡ isWhole file
+  unfolding isWhole
   too-long h = rw (lt-leb (length file) 65536 h)
 
-  pub odd : (length file % 2 ≡ 0 → ⊥) → sheetIn file ≡ []
-  unfolding sheetIn
-  odd h = rw (ne-eqb (length file % 2) 0 h, and-false (leb (length file) 65536))
+  pub by-parity : length file ≤ 65536 → eqb (length file % 2) 0 ≡ isWhole file
+  unfolding isWhole
+  by-parity h = rw (le-leb (length file) 65536 h)
 
-  pub whole : length file ≤ 65536 → length file % 2 ≡ 0 → (s : List ℕ) → take (length file / 2) s ≡ numbersOf file
+  pub whole-length : isWhole file ≡ true → length file ≤ 65536
+  unfolding isWhole
+  whole-length h = leb-true _ _ (both _ _ h .0)
+
+  pub not-whole : isWhole file ≡ false → sheetIn file ≡ []
+  unfolding sheetIn
+  not-whole h = rw h
+
+  pub whole : isWhole file ≡ true → (s : List ℕ) → take (length file / 2) s ≡ numbersOf file
       → (length file / 2 ≡ length (sheetIn file)) × (take (length file / 2) s ≡ sheetIn file)
   unfolding sheetIn
-  whole h e s q = rw (le-leb (length file) 65536 h, eq-eqb (length file % 2) 0 e) (sym (numbers-length file), q)
+  whole h s q = rw h (sym (numbers-length file), q)
 
--- the file of a sheet that has room in its buffer
-pub encoded : (n k room : ℕ) (s file : List ℕ) → n ≤ length s → 2 * length s ≤ room → (k ≡ length (fileIn room (take n s))) × (take k file ≡ fileIn room (take n s))
-    → take (2 * n) file ≡ fileOf (take n s)
+-- what was read, the first n numbers of s, has room in its buffer, which is as long as it was, and its file in that for the file
+pub encoded : (n k room : ℕ) (before s file : List ℕ) → n ≤ length before → length s ≡ length before → 2 * length before ≤ room
+    → (k ≡ length (fileIn room (take n s))) × (take k file ≡ fileIn room (take n s))
+    → (take (2 * n) file ≡ fileOf (take n s)) × (n ≤ length s)
 unfolding fileIn
-encoded n k room s file h r e =
-    let l = length-take-le n s h in
+encoded n k room before s file h z r e =
+    let l = length-take-le n s (omega arith) in
     let f = file-length (take n s) in
     let w : fileIn room (take n s) ≡ fileOf (take n s) = rw (le-leb (2 * length (take n s)) room (omega arith)) in
     let m : k ≡ 2 * n = (e .0 ∙ ap length w) ∙ (let g = f in omega arith) in
-    ap (λ (x : ℕ). take x file) (sym m) ∙ e .1 ∙ w
+    (ap (λ (x : ℕ). take x file) (sym m) ∙ e .1 ∙ w, omega arith)

@@ -59,11 +59,18 @@ pub fn put_labelled(out: &mut [u8], at: usize, label: &[u8], n: u64) -> usize
     put_number(out, o, n)
 }
 
+// A line of two numbers, each behind its label.
+pub fn put_two(out: &mut [u8], first: &[u8], n: u64, second: &[u8], m: u64) -> usize
+    ensures { λ r. ⌜ Counts r (now (out .exit)) ⌝ }
+{
+    let a = put_labelled(out, 0, first, n);
+    let b = put_labelled(out, a, second, m);
+    put(out, b, b'\n')
+}
+
 // "A refusal prints one line, as `refused 10 at 0`."
 pub fn put_refusal(out: &mut [u8], number: u64, place: u64) -> usize
     ensures { λ r. ⌜ Counts r (now (out .exit)) ⌝ }
 {
-    let a = put_labelled(out, 0, b"refused ", number);
-    let b = put_labelled(out, a, b" at ", place);
-    put(out, b, b'\n')
+    put_two(out, b"refused ", number, b" at ", place)
 }

@@ -1,17 +1,11 @@
-// Laying and reading on many cases in one run: data/cases has them (made, with what is to be printed, by tests/vanc_cases.py, which says how a case is
-// written). Each lays a sheet into an area of noise, damages the area, and reads it into a buffer of noise; what is printed has both answers and a
-// number mixed of every byte of the area, and of every number of the buffer, afterwards.
-ghost use mathlib.Core.Path.{_≡_};
+// Laying and reading on many cases in one run: data/cases has them (made, with what is to be printed, by tests/vanc_cases.py, which says how a
+// case is written). Each lays a sheet into an area of noise, damages the area, and reads it into a buffer of noise; what is printed has both
+// answers and a number mixed of every byte of the area, and of every number of the buffer, afterwards.
 ghost use Prim.Native.Nat.{_+_, _*_, _≤_, _<_};
 ghost use lib.ListN.{length};
+use frame::wide;
 use rules::Laid;
 use rules::ReadBack;
-
-fn wide(x: u8) -> usize
-    ensures { λ r. ⌜ r ≤ 255 ⌝ }
-{
-    x as usize
-}
 
 // Two bytes, high byte first.
 fn two(b: &[u8], at: usize) -> usize
@@ -260,17 +254,6 @@ fn with_body(head: &[u8], body: &[u8]) {
     );
 }
 
-fn read_body(fd: i32, head: &[u8], part: &mut [u8]) {
-    let n = io::read_full(fd, part);
-    with_body(head, &part[..n]);
-}
-
-fn read_case(fd: i32, head: &[u8], body: &mut [u8], n: usize) {
-    if n <= body.len() {
-        read_body(fd, head, &mut body[..n]);
-    }
-}
-
 // Does the next case; false where there is none.
 fn next_case(fd: i32, head: &mut [u8], body: &mut [u8]) -> bool {
     if io::read_full(fd, head) < 24 {
@@ -279,8 +262,8 @@ fn next_case(fd: i32, head: &mut [u8], body: &mut [u8]) -> bool {
     if head.len() < 24 {
         return false;
     }
-    let n = body_size(head);
-    read_case(fd, head, body, n);
+    let n = files::read_next(fd, body, body_size(head));
+    with_body(head, &body[..n]);
     true
 }
 

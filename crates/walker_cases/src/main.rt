@@ -1,9 +1,9 @@
 // The walker on many strings in one run: data/cases has them (made, with what is to be printed, by tests/walker_cases.py, which says how a case is
 // written). Of each string every answer is printed to the end or a refusal, two further ones, and steps from places that are no packet's.
 use frame::StringByte;
+use frame::wide;
 use rules::Step;
 use walker::Walked;
-ghost use Prim.Native.Nat.{_≤_};
 ghost use Rattle.io.specs.Counts.{Counts};
 
 fn put_step(out: &mut [u8], s: Step, at: u64) -> usize
@@ -58,25 +58,8 @@ fn print_case(system: u64, string: &[u8]) {
     print_places(system, string);
 }
 
-fn read_string(fd: i32, system: u8, string: &mut [u8]) {
-    let n = io::read_full(fd, string);
-    print_case(system as u64, &string[..n]);
-}
-
-fn wide(x: u8) -> usize
-    ensures { λ r. ⌜ r ≤ 255 ⌝ }
-{
-    x as usize
-}
-
 fn length_of(high: u8, low: u8) -> usize {
     wide(high) * 256 + wide(low)
-}
-
-fn read_case(fd: i32, system: u8, body: &mut [u8], n: usize) {
-    if n <= body.len() {
-        read_string(fd, system, &mut body[..n]);
-    }
 }
 
 // The next string: its system, its length in two bytes, its bytes.
@@ -87,7 +70,9 @@ fn next_case(fd: i32, head: &mut [u8], body: &mut [u8]) -> bool {
     if head.len() < 3 {
         return false;
     }
-    read_case(fd, head[0], body, length_of(head[1], head[2]));
+    let system = wide(head[0]) as u64;
+    let n = files::read_next(fd, body, length_of(head[1], head[2]));
+    print_case(system, &body[..n]);
     true
 }
 

@@ -50,20 +50,17 @@ returns-2 c = counts _ _ (search needs)
 put-row-requires : tie.Need-put-row-requires Inv-loop μ-loop
 put-row-requires c κs = search needs
 
-add-low : tie.Need-add-low Inv-loop μ-loop
-add-low c = search needs
+add-low-byte : tie.Need-add-low-byte Inv-loop μ-loop
+add-low-byte c = search needs
 
-mul-low : tie.Need-mul-low Inv-loop μ-loop
-mul-low c = search needs
+mul-low-byte : tie.Need-mul-low-byte Inv-loop μ-loop
+mul-low-byte c = search needs
 
-shared-slice-read-low : tie.Need-shared-slice-read-low Inv-loop μ-loop
-shared-slice-read-low c = search needs
+shared-slice-read-low-byte : tie.Need-shared-slice-read-low-byte Inv-loop μ-loop
+shared-slice-read-low-byte c = search needs
 
-low-requires : tie.Need-low-requires Inv-loop μ-loop
-low-requires c κs = search needs
-
-cast-w : tie.Need-cast-w Inv-loop μ-loop
-cast-w c = search needs
+low-byte-requires : tie.Need-low-byte-requires Inv-loop μ-loop
+low-byte-requires c κs = search needs
 
 add-w-2 : tie.Need-add-w-2 Inv-loop μ-loop
 add-w-2 c = search needs
@@ -104,11 +101,10 @@ put-rows-spec =
     same-length-2
     returns-2
     put-row-requires
-    add-low
-    mul-low
-    shared-slice-read-low
-    low-requires
-    cast-w
+    add-low-byte
+    mul-low-byte
+    shared-slice-read-low-byte
+    low-byte-requires
     add-w-2
     add-w-3
     add-k

@@ -36,9 +36,10 @@ returns-3 c = search needs
 
 slice-aggregate-put-rows : tie.Need-slice-aggregate-put-rows
 slice-aggregate-put-rows c =
-    let k = c .before .before .before .before .before .before .before .before .before .before .before .before .before .tested .kept .1 .0 in
+    let t = c .before .before .before .before .before .before .before .before .before .before .before .before .before .tested in
+    let k = t .kept .1 .0 in
     let h = c .before .before .before .before .before .before .if2 .left in
-    sym (length-take-le _ (c .before .before .before .before .before .before .before .before .before .before .before .before .before .tested .last .1 .0) (omega arith))
+    sym (length-take-le _ (t .last .1 .0) (omega arith))
 
 put-rows-requires : tie.Need-put-rows-requires
 put-rows-requires c κs = search needs

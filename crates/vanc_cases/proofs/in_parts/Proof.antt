@@ -47,13 +47,17 @@ slice-relend-prefix-lay-and-read : tie.Need-slice-relend-prefix-lay-and-read
 slice-relend-prefix-lay-and-read c = search needs
 
 slice-aggregate-lay-and-read-2 : tie.Need-slice-aggregate-lay-and-read-2
-slice-aggregate-lay-and-read-2 c = sym (length-take-le _ (c .before .before .before .before .before .before .before .before .before .before .before .before .before .before .before .args .area .now) (c .before .before .before .before .before .before .before .before .before .if2 .left))
+slice-aggregate-lay-and-read-2 c =
+    let d = c .before .before .before .before .before .before .before .before .before in
+    sym (length-take-le _ (d .before .before .before .before .before .before .args .area .now) (d .if2 .left))
 
 slice-relend-prefix-lay-and-read-2 : tie.Need-slice-relend-prefix-lay-and-read-2
 slice-relend-prefix-lay-and-read-2 c = search needs
 
 slice-aggregate-lay-and-read-3 : tie.Need-slice-aggregate-lay-and-read-3
-slice-aggregate-lay-and-read-3 c = sym (length-take-le _ (c .before .before .before .before .before .before .before .before .before .before .before .before .before .before .before .before .args .buffer .now) (c .before .before .before .before .before .before .before .before .before .if3 .left))
+slice-aggregate-lay-and-read-3 c =
+    let d = c .before .before .before .before .before .before .before .before .before in
+    sym (length-take-le _ (d .before .before .before .before .before .before .before .args .buffer .now) (d .if3 .left))
 
 lay-and-read-requires : tie.Need-lay-and-read-requires
 lay-and-read-requires c κs = search needs
