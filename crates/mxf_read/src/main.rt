@@ -27,7 +27,7 @@ fn read_element(
 {
     let r = mxf::read(system, fi, element, s);
     let n = r.numbers as usize;
-    sheet_file::encode(s, n, file);
+    sheet_file::encode_first(s, n, file);
     r
 }
 

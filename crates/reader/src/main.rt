@@ -22,7 +22,7 @@ fn read_area(system: u64, area: &[u8], s: &mut [u16], file: &mut [u8]) -> ReadBa
 {
     let r = vanc::read(system, area, s);
     let n = r.numbers as usize;
-    sheet_file::encode(s, n, file);
+    sheet_file::encode_first(s, n, file);
     r
 }
 

@@ -8,7 +8,7 @@ use mathlib.Core.Bool.{true, false}
 use mathlib.Core.List.{List, [], _∷_}
 use native.Mathlib.Numerals.{add-one}
 use native.Mathlib.Omega.{arith}
-use lib.Dec.{eqb, leb}
+use lib.Dec.{eqb}
 use lib.ListN.{length, getD, take, set, length-set}
 use lib.Seq.{take-suc, take-all, take-suc-set, length-take-le}
 use borrow.Author.Tests.{leb-true, le-leb, lt-leb}

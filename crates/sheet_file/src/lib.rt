@@ -60,7 +60,7 @@ fn high(n: u16) -> u8
 }
 
 // The file of a sheet, at the start of a buffer: how many bytes it has. Nothing where it has no room.
-fn encode_all(s: &[u16], file: &mut [u8]) -> usize
+pub fn encode(s: &[u16], file: &mut [u8]) -> usize
     ensures { λ r. ⌜ (r ≡ length (fileIn (length (now (file .entry))) (now (s .entry))))
         × (take r (now (file .exit)) ≡ fileIn (length (now (file .entry))) (now (s .entry))) ⌝ }
 {
@@ -79,12 +79,12 @@ fn encode_all(s: &[u16], file: &mut [u8]) -> usize
 
 // The file of the sheet that is the first n numbers of s (all of them, where there are not so many), at the start of a buffer: how many bytes
 // it has. Nothing where it has no room.
-pub fn encode(s: &[u16], n: usize, file: &mut [u8]) -> usize
+pub fn encode_first(s: &[u16], n: usize, file: &mut [u8]) -> usize
     ensures { λ r. ⌜ (r ≡ length (fileIn (length (now (file .entry))) (take n (now (s .entry)))))
         × (take r (now (file .exit)) ≡ fileIn (length (now (file .entry))) (take n (now (s .entry)))) ⌝ }
 {
     if s.len() <= n {
-        return encode_all(s, file);
+        return encode(s, file);
     }
-    encode_all(&s[..n], file)
+    encode(&s[..n], file)
 }

@@ -9,8 +9,8 @@ use Rattle.reader.proofs.read_area.Tie as tie
 read-requires : tie.Need-read-requires
 read-requires c κs = search needs
 
-encode-requires : tie.Need-encode-requires
-encode-requires c κs = search needs
+encode-first-requires : tie.Need-encode-first-requires
+encode-first-requires c κs = search needs
 
 same-length : tie.Need-same-length
 same-length c = search needs
@@ -22,7 +22,7 @@ returns : tie.Need-returns
 returns c =
     let start = c .before .before .before .before .before .before .before .before .before .before .before .before in
     let d = c .before .before .before .before .before .before .before .read in
-    let e = c .before .before .encode in
+    let e = c .before .before .encode-first in
     let within = read-within _ _ _ _ _ (d .ensures) in
     let s = d .last .1 .1 .0 in
     let file = e .last .1 .1 .0 in
@@ -31,4 +31,4 @@ returns c =
     ((d .ensures, w .0), w .1)
 
 pub read-area-spec : {M : Type 1} → statement M
-read-area-spec = tie.close (tie.spec read-requires encode-requires same-length same-length-2 returns)
+read-area-spec = tie.close (tie.spec read-requires encode-first-requires same-length same-length-2 returns)

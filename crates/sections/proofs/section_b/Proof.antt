@@ -32,7 +32,9 @@ part-result-end : tie.Need-part-result-end
 part-result-end c = search needs
 
 returns-2 : tie.Need-returns-2
-returns-2 c = b-cut (c .before .before .before .before .before .before .args .sheet .now) _ (c .before .before .wide .ensures .0) (c .before .if2 .taken)
+returns-2 c =
+    let w = c .before .before in
+    b-cut (w .before .before .before .before .args .sheet .now) _ (w .wide .ensures .0) (c .before .if2 .taken)
 
 sub-result-2 : tie.Need-sub-result-2
 sub-result-2 c = search needs

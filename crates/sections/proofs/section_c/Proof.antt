@@ -27,7 +27,9 @@ slice-aggregate-result-2 : tie.Need-slice-aggregate-result-2
 slice-aggregate-result-2 c = search needs
 
 returns-2 : tie.Need-returns-2
-returns-2 c = c-none (c .before .before .before .before .before .before .args .sheet .now) (let p = c .before .before .wide .ensures .0 in omega arith)
+returns-2 c =
+    let w = c .before .before in
+    c-none (w .before .before .before .before .args .sheet .now) (let p = w .wide .ensures .0 in omega arith)
 
 mul-result : tie.Need-mul-result
 mul-result c = search needs

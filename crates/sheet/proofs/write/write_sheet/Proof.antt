@@ -109,7 +109,8 @@ returns-3 c =
     let l = long b in
     let n = 4 + 2 * b .measure .result + bytes b in
     rw (same b) at
-    (all-room (a .system) (s b) (a .sheet .now) (b .measure .result) n (w .0) (w .1) (omega arith) (omega arith) (omega arith) (d .last .1 .1 .1 .0) (d .ensures))
+    (all-room (a .system) (s b) (a .sheet .now) (b .measure .result) n (w .0) (w .1) (omega arith) (omega arith) (omega arith)
+    (d .last .1 .1 .1 .0) (d .ensures))
 
 pub write-sheet-spec : {M : Type 1} → statement M
 write-sheet-spec =
