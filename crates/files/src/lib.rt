@@ -24,7 +24,7 @@ fn digit(b: u8) -> u64
     (b - b'0') as u64
 }
 
-// A number in decimal digits, of at most 18.
+// A number in decimal digits, below 10^18; `NOT_A_NUMBER` for any other text.
 fn number_of(digits: &[u8]) -> u64 {
     if digits.len() == 0 {
         return NOT_A_NUMBER;
