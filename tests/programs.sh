@@ -423,6 +423,16 @@ for output in new.file frame.area; do
   withstands film.anc $output film_0.sheet "read packets 2 numbers 25" mxf_read 3 0 film.anc $output
 done
 
+# The lister: an input that cannot be read, or not to its end, is no sheet, and a listing that cannot be printed is said.
+refused "listing a folder" "" "standard input: Is a directory" lister <folder
+for call in "read 1" "read 2" "short read 3"; do
+  fault=$call
+  refused "listing where '$fault' fails" "" "standard input: Input/output error" lister <cue.sheet
+done
+fault="print 1"
+refused "listing where standard output is full" "" "standard output: No space left on device" lister <cue.sheet
+fault=
+
 # The largest files, one byte at a time.
 fresh "$made/full_1.sheet" "$made/full_1.anc" "$made/fill_2_2.area" "$made/fill_2_2.sheet"
 fault=short

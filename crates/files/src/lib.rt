@@ -3,6 +3,7 @@
 ghost use Prim.Native.Nat.{_≤_};
 ghost use Rattle.io.specs.Counts.{Counts};
 use libc::STDERR_FILENO;
+use libc::STDIN_FILENO;
 use libc::STDOUT_FILENO;
 
 // More than any number that is read from digits.
@@ -130,6 +131,17 @@ pub fn read_file(path: &[u8], buf: &mut [u8]) -> FileRead
         os::fail(path);
     }
     libc::close(fd);
+    r
+}
+
+// What standard input has, as much as the buffer has room for, at its start. Where it cannot be read that is said.
+pub fn read_input(buf: &mut [u8]) -> FileRead
+    ensures { λ r. ⌜ Counts (r .bytes) (now (buf .exit)) ⌝ }
+{
+    let r = read_all(STDIN_FILENO, buf);
+    if !r.done {
+        os::fail(b"standard input");
+    }
     r
 }
 

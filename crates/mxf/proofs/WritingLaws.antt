@@ -28,7 +28,7 @@ use Rattle.rules.proofs.Words.{low-word, map-low}
 use Rattle.rules.proofs.Sheets.{system-back, sheet-read}
 use Rattle.sheet.proofs.Filling.{part-kept, part-front}
 use Rattle.sections.specs.Sections.{SectionsOf}
-use Rattle.sections.proofs.Laws.{sections-of, Left, left-all, left-none, Next, next-of}
+use Rattle.sections.proofs.Laws.{sections-of, Left, left-all, left-none, Next, next-of, next-inside}
 use Rattle.mxf.specs.Element.{two, three, four, key, wrapping, coding, bare, samples, structure, value, element, elementOf}
 use Rattle.mxf.specs.Served.{serves, served}
 use Rattle.mxf.specs.Writing.{lined, export, withRoom, writing, writtenOf, elementIn, write, elementAfter}
@@ -127,9 +127,7 @@ module _ {sys : ℕ} {fi : Bool} {ls ws : List ℕ} {k at packets bytes : ℕ} (
 
     -- the next packet stands in the sections
     pub measure-inside : Sections ls ws → (at + (low (getD ws (at + 5) 0) + 7) ≤ length ws) × (2 * k + 2 ≤ length ls)
-    measure-inside s =
-        let n = measure-next (s .system) (s .packets) (s .of) in
-        let w = n .within in let d = n .dc in (omega arith, n .pair)
+    measure-inside s = next-inside (s .system) ls ws (2 * k) at _ (measure-next (s .system) (s .packets) (s .of))
 
     module _ {dc : ℕ} {b : Bool} (size : dc ≡ low (getD ws (at + 5) 0)) (is : b ≡ serves sys fi (getD ls (2 * k + 1) 0)) where
       -- one that is served without a line
@@ -367,10 +365,7 @@ module _ {sys : ℕ} {fi : Bool} {ls ws out : List ℕ} {k at o : ℕ} (so : Str
 
     -- the next packet stands in the sections
     pub structures-inside : Sections ls ws → (at + (low (getD ws (at + 5) 0) + 7) ≤ length ws) × (2 * k + 2 ≤ length ls)
-    structures-inside s =
-        let n = structures-next (s .system) (s .packets) (s .of) in
-        let w = n .within in
-        let d = n .dc in (omega arith, n .pair)
+    structures-inside s = next-inside (s .system) ls ws (2 * k) at _ (structures-next (s .system) (s .packets) (s .of))
 
     module _ {dc : ℕ} {b : Bool} (size : dc ≡ low (getD ws (at + 5) 0)) (is : b ≡ serves sys fi (getD ls (2 * k + 1) 0)) where
       module _ (t : b ≡ true) where

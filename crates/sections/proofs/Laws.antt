@@ -177,6 +177,11 @@ module _ (y : System) (ls ws : List ℕ) where
         };
       }
 
+  -- the next packet stands in the sections, its DC and its location too
+  pub next-inside : (k at : ℕ) (left : List Packet) → Next y ls ws k at left
+      → (at + (low (getD ws (at + 5) 0) + 7) ≤ length ws) × (k + 2 ≤ length ls)
+  next-inside k at left n = let w = n .within in let d = n .dc in (omega arith, n .pair)
+
   -- where the next packet ends, those that are left then begin
   module _ (k at end : ℕ) (left : List Packet) (n : Next y ls ws k at left) (e : Ends ws at end) where
     pub next-ends : end ≡ at + bytesOf (n .packet)
