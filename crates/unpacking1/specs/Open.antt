@@ -1,4 +1,4 @@
--- Opening packs of 5: what the contracts of module `open` cite, beside the rules.
+-- Opening packs of 5: what the contracts of this crate cite, beside the rules.
 --
 -- In order: packs in a run of bytes; their order (13); one packet (14); all of them.
 -- Assumes nothing.
@@ -62,6 +62,7 @@ pub record PacksEnd (us : List ℕ) (at total r : ℕ) : Type 0 where
   pub within : r ≤ total
   pub ends : (r ≡ 0 → ⊥) → lead (packsAt us r total) ≡ 0
 
+-- every pack is a carrier
 abbrev pub allCarriers : List Five → Bool
 allCarriers [] = true
 allCarriers (p ∷ ps) = eqb (p .b0) 0xE2 && allCarriers ps
