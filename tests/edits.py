@@ -278,11 +278,11 @@ def main(words):
         sys.exit(0 if stand() else 1)
     edits = chosen(words)
     # What the crates rest on, proved before the copies are taken: a copy would prove it for itself, each time.
-    reached, todo = set(), list(edits)
-    while todo:
-        more = set(dependencies()[todo.pop()]) - reached
+    reached, left = set(), list(edits)
+    while left:
+        more = set(dependencies()[left.pop()]) - reached
         reached |= more
-        todo += more
+        left += more
     if reached:
         done = subprocess.run(["rt", "check", *sorted(reached)], stdout=subprocess.PIPE, stderr=subprocess.STDOUT, text=True)
         if done.returncode != 0:
