@@ -276,7 +276,7 @@ def chosen(words):
 def main(words):
     if words == ["--stand"]:
         sys.exit(0 if stand() else 1)
-    edits = chosen(words)
+    edits, began = chosen(words), time.time()
     # What the crates rest on, proved before the copies are taken: a copy would prove it for itself, each time.
     reached, left = set(), list(edits)
     while left:
@@ -308,6 +308,7 @@ def main(words):
                 thread.join()
         shutil.rmtree(work, ignore_errors=True)
     total = sum(map(len, edits.values()))
+    print(f"edits: {time.time() - began:.0f} s")
     for error in tries.errors:
         print(f"edits: {error}")
     if tries.failed:

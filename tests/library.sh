@@ -45,3 +45,4 @@ if [ "$(uname -m)" = x86_64 ]; then
 else
   echo "examples/frame.rs: skipped, this machine's rustc does not link x86-64 programs"
 fi
+echo "library: $SECONDS s"

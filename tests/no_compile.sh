@@ -21,5 +21,5 @@ for edit in tests/no_compile/*.edit; do
   fi
   rm -rf "$home"
 done
-echo "no_compile: $passed passed, $failed failed"
+echo "no_compile: $passed passed, $failed failed, $SECONDS s"
 [ "$failed" = 0 ]

@@ -465,4 +465,4 @@ fault="print 1" refused "a refusal where standard output is full" "" "standard o
 same "a full disk"
 done_tests=$((done_tests + 1))
 
-echo "programs: $done_tests runs as expected"
+echo "programs: $done_tests runs as expected, $SECONDS s"

@@ -63,3 +63,4 @@ else
     echo "second: bench/$baseline.c: $(tail -n 1 "$work/log")"
   done
 fi
+echo "second: $SECONDS s"
