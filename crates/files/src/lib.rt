@@ -1,90 +1,59 @@
-// What the programs that work on files share: numbers among the arguments, a file read whole, a file replaced whole, one line printed. What goes
-// wrong is said on standard error, with the file's name, and the caller does nothing more.
-ghost use Prim.Native.Nat.{_≤_};
+// What the command does with files and streams: an input read whole, an output found, and replaced whole. What goes wrong with a file is said on
+// standard error by the name that the operator wrote, and the caller does nothing more.
 ghost use Rattle.io.specs.Counts.{Counts};
+use file_status::Known;
+use file_status::REGULAR;
+use libc::PATH_MAX;
 use libc::STDERR_FILENO;
 use libc::STDIN_FILENO;
 use libc::STDOUT_FILENO;
 
-// More than any number that is read from digits.
-pub const NOT_A_NUMBER: u64 = 18446744073709551615;
+// ---- what is said
 
-// From here on one more digit could wrap.
-const LARGE: u64 = 100000000000000000;
-
-// What a digit stands for; 10 for what is no digit.
-fn digit(b: u8) -> u64
-    ensures { λ r. ⌜ r ≤ 10 ⌝ }
-{
-    if b < b'0' {
-        return 10;
-    }
-    if b'9' < b {
-        return 10;
-    }
-    (b - b'0') as u64
+// A line on standard error, in one write: what it is about, and what is wrong.
+pub fn say(what: &[u8], why: &[u8]) {
+    let mut line = [0u8; 8192];
+    let a = text::put_text(&mut line, 0, b"vanc: ");
+    let b = text::put_text(&mut line, a, what);
+    let c = text::put_text(&mut line, b, why);
+    let n = text::put(&mut line, c, b'\n');
+    io::write_all(STDERR_FILENO, &line[..n]);
 }
 
-// A number in decimal digits, below 10^18; `NOT_A_NUMBER` for any other text.
-fn number_of(digits: &[u8]) -> u64 {
-    if digits.len() == 0 {
-        return NOT_A_NUMBER;
-    }
-    let mut n = 0;
-    let mut i = 0;
-    while i < digits.len() {
-        let d = digit(digits[i]);
-        if 9 < d {
-            return NOT_A_NUMBER;
-        }
-        if LARGE <= n {
-            return NOT_A_NUMBER;
-        }
-        n = 10 * n + d;
-        i += 1;
-    }
-    n
+// Of a call that failed just now: what it was about, and the system's words.
+pub fn fail(what: &[u8], why: &[u8]) {
+    let mut line = [0u8; 8192];
+    let a = text::put_text(&mut line, 0, b"vanc: ");
+    let b = text::put_text(&mut line, a, what);
+    let n = text::put_text(&mut line, b, why);
+    os::fail(&line[..n]);
 }
 
-// The number that is argument i; `NOT_A_NUMBER` where it is none, which is then said.
-pub fn number_argument(i: usize, name: &[u8]) -> u64 {
-    let mut digits = [0u8; 64];
-    let k = os::arg(i, &mut digits);
-    let n = number_of(&digits[..k]);
-    if n == NOT_A_NUMBER {
-        say(name, b": not a number\n");
-    }
-    n
+// A line of the result: whether it is written.
+pub fn print(line: &[u8]) -> bool {
+    io::write_all(STDOUT_FILENO, line)
 }
 
-// The 0 or 1 that is argument i; `NOT_A_NUMBER` where it is neither, which is then said.
-pub fn bit_argument(i: usize, name: &[u8]) -> u64 {
-    let n = number_argument(i, name);
-    if n == NOT_A_NUMBER || n < 2 {
-        return n;
+// Sees to it that no file that is opened gets the number of a stream, and with it what is meant for that: a closed standard input becomes one that
+// cannot be read, a closed standard error one that cannot be written. False where standard output is closed, or a number stays free.
+pub fn hold_streams() -> bool {
+    let input = file_status::of_descriptor(STDIN_FILENO);
+    if input.error == libc::EBADF {
+        os::open_append(b"/dev/null");
     }
-    say(name, b": neither 0 nor 1\n");
-    NOT_A_NUMBER
+    let output = file_status::of_descriptor(STDOUT_FILENO);
+    if output.error != 0 {
+        fail(b"standard output", b"");
+        return false;
+    }
+    let error = file_status::of_descriptor(STDERR_FILENO);
+    if error.error == libc::EBADF {
+        return os::open_read(b"/dev/null") == STDERR_FILENO;
+    }
+    true
 }
 
-fn no_path(name: &[u8]) {
-    if os::errno() != 0 {
-        os::fail(name);
-        return;
-    }
-    say(name, b": an empty name\n");
-}
-
-// The file name that is argument i, at the start of a buffer: how long it is; 0 where there is none, which is then said.
-pub fn path_argument(i: usize, name: &[u8], path: &mut [u8]) -> usize
-    ensures { λ r. ⌜ Counts r (now (path .exit)) ⌝ }
-{
-    let n = os::arg(i, path);
-    if n == 0 {
-        no_path(name);
-    }
-    n
-}
+// ---- reading
 
 // What came of reading a file: how many bytes stand at the start of the buffer, and whether no read failed.
 pub struct FileRead {
@@ -114,35 +83,11 @@ fn read_all(fd: i32, buf: &mut [u8]) -> FileRead
     }
 }
 
-// The bytes of a file, as many as the buffer has room for, at its start. Where it cannot be read that is said.
-pub fn read_file(path: &[u8], buf: &mut [u8]) -> FileRead
-    ensures { λ r. ⌜ Counts (r .bytes) (now (buf .exit)) ⌝ }
-{
-    let fd = os::open_read(path);
-    if fd < 0 {
-        os::fail(path);
-        return FileRead {
-            bytes: 0,
-            done: false,
-        };
-    }
-    let r = read_all(fd, buf);
-    if !r.done {
-        os::fail(path);
-    }
-    libc::close(fd);
-    r
-}
-
-// What standard input has, as much as the buffer has room for, at its start. Where it cannot be read that is said.
+// What standard input has, as much as the buffer has room for, at its start. Nothing is said.
 pub fn read_input(buf: &mut [u8]) -> FileRead
     ensures { λ r. ⌜ Counts (r .bytes) (now (buf .exit)) ⌝ }
 {
-    let r = read_all(STDIN_FILENO, buf);
-    if !r.done {
-        os::fail(b"standard input");
-    }
-    r
+    read_all(STDIN_FILENO, buf)
 }
 
 // The next n bytes of an open file, at the start of a buffer: how many there are. Fewer than n where the file ends or a read fails, and none where
@@ -156,96 +101,321 @@ pub fn read_next(fd: i32, buf: &mut [u8], n: usize) -> usize
     io::read_full(fd, &mut buf[..n])
 }
 
-// The name of the file that is written beside a file: its own and four bytes by chance, so that two runs do not meet.
-fn name_beside(path: &[u8], name: &mut [u8]) -> usize
+// What is known of a file that is not there.
+pub fn no_file() -> Known {
+    Known {
+        error: libc::ENOENT,
+        kind: 0,
+        mode: 0,
+        owner: 0,
+        group: 0,
+        device: 0,
+        number: 0,
+    }
+}
+
+// Whether the open file is another than the output that is known; else it is said, by both names.
+fn is_other(fd: i32, name: &[u8], output: &[u8], is: Known) -> bool {
+    let input = file_status::of_descriptor(fd);
+    if input.error != 0 {
+        fail(name, b"");
+        return false;
+    }
+    if is.kind != REGULAR {
+        return true;
+    }
+    if file_status::is_same(input, is) {
+        let mut why = [0u8; 4352];
+        let a = text::put_text(&mut why, 0, b": the same file as ");
+        let n = text::put_text(&mut why, a, name);
+        say(output, &why[..n]);
+        return false;
+    }
+    true
+}
+
+fn read_open(fd: i32, name: &[u8], buf: &mut [u8]) -> FileRead
+    ensures { λ r. ⌜ Counts (r .bytes) (now (buf .exit)) ⌝ }
+{
+    let r = read_all(fd, buf);
+    if !r.done {
+        fail(name, b"");
+    }
+    r
+}
+
+// The bytes of the file with a name, which is at a path, as many as the buffer has room for, at its start. Where it cannot be read, or is the file of
+// the output, that is said.
+pub fn read_file(name: &[u8], path: &[u8], output: &[u8], is: Known, buf: &mut [u8]) -> FileRead
+    ensures { λ r. ⌜ Counts (r .bytes) (now (buf .exit)) ⌝ }
+{
+    let none = FileRead {
+        bytes: 0,
+        done: false,
+    };
+    let fd = os::open_read(path);
+    if fd < 0 {
+        fail(name, b"");
+        return none;
+    }
+    if !is_other(fd, name, output, is) {
+        libc::close(fd);
+        return none;
+    }
+    let r = read_open(fd, name, buf);
+    libc::close(fd);
+    r
+}
+
+// ---- the file that an output's name leads to
+
+// How much of a path is the folder's, with the slash behind it.
+fn folder_of(path: &[u8]) -> usize
+    ensures { λ r. ⌜ Counts r (now (path .entry)) ⌝ }
+{
+    let mut n = path.len();
+    while 0 < n {
+        if path[n - 1] == b'/' {
+            return n;
+        }
+        n -= 1;
+    }
+    n
+}
+
+// Follows one link: the path of what it names, in the path's place, and how long it is. 0 where the path leads to no link. A path that has no room
+// is as long as the buffer, and so longer than a path can be.
+fn follow_link(path: &mut [u8], n: usize) -> usize
+    requires { ⌜ Counts n (now path) ⌝ }
+    ensures { λ r. ⌜ Counts r (now (path .exit)) ⌝ }
+{
+    let mut link = io::buffer();
+    let k = file_status::link_at(&path[..n], &mut link);
+    if k == 0 {
+        return 0;
+    }
+    if link[0] == b'/' {
+        return text::put_text(path, 0, &link[..k]);
+    }
+    let f = folder_of(&path[..n]);
+    text::put_text(path, f, &link[..k])
+}
+
+// The most links that the system follows.
+const LINKS: usize = 40;
+
+// Follows links until none is left: how long the path of the file is, at the start of the buffer.
+fn follow_links(path: &mut [u8], n: usize) -> usize
+    requires { ⌜ Counts n (now path) ⌝ }
+    ensures { λ r. ⌜ Counts r (now (path .exit)) ⌝ }
+{
+    let mut bytes = n;
+    let mut left = LINKS;
+    while 0 < left {
+        let m = follow_link(path, bytes);
+        if m == 0 {
+            return bytes;
+        }
+        bytes = m;
+        left -= 1;
+    }
+    path.len()
+}
+
+// What an output's name leads to: how long the path of its file is, at the start of the buffer that was lent for it, and what is known of the file.
+// Of no bytes where nothing may be written there.
+pub struct Output {
+    pub bytes: usize,
+    pub is: Known,
+}
+
+fn say_kind(name: &[u8], kind: u32) {
+    if kind == file_status::FOLDER {
+        say(name, b": a folder; only a regular file is replaced");
+    } else if kind == file_status::FIFO {
+        say(name, b": a FIFO; only a regular file is replaced");
+    } else if kind == file_status::SOCKET {
+        say(name, b": a socket; only a regular file is replaced");
+    } else {
+        say(name, b": a device; only a regular file is replaced");
+    }
+}
+
+// Whether a file may be made or replaced under the name; else that is said.
+fn may_stand(name: &[u8], is: Known) -> bool {
+    if is.error == libc::ENOENT {
+        return true;
+    }
+    if is.error != 0 {
+        fail(name, b"");
+        return false;
+    }
+    if is.kind == REGULAR {
+        return true;
+    }
+    say_kind(name, is.kind);
+    false
+}
+
+// The file that an output's name leads to, through links: a regular file, or none yet. Where it is another, that is said. Nothing is opened.
+pub fn find_output(name: &[u8], path: &mut [u8]) -> Output
+    ensures { λ r. ⌜ Counts (r .bytes) (now (path .exit)) ⌝ }
+{
+    let is = file_status::of_path(name);
+    if !may_stand(name, is) {
+        return Output { bytes: 0, is: is };
+    }
+    let n = text::put_text(path, 0, name);
+    let m = follow_links(path, n);
+    if PATH_MAX <= m {
+        say(name, b": File name too long");
+        return Output { bytes: 0, is: is };
+    }
+    Output { bytes: m, is: is }
+}
+
+// ---- replacing
+
+// One of 62 letters and digits.
+fn letter(chance: u8) -> u8 {
+    let d = chance % 62;
+    if d < 10 {
+        return b'0' + d;
+    }
+    if d < 36 {
+        return b'a' + (d - 10);
+    }
+    b'A' + (d - 36)
+}
+
+// Six letters by chance, so that two runs do not meet.
+fn put_chance(name: &mut [u8], at: usize) -> usize
     ensures { λ r. ⌜ Counts r (now (name .exit)) ⌝ }
 {
-    let mut chance = [0u8; 4];
+    let mut chance = [0u8; 6];
     libc::getentropy(&mut chance);
-    let a = text::put_text(name, 0, path);
-    let b = text::put_text(name, a, b".new-");
-    let c = text::put_byte(name, b, chance[0]);
-    let d = text::put_byte(name, c, chance[1]);
-    let e = text::put_byte(name, d, chance[2]);
-    text::put_byte(name, e, chance[3])
+    let a = text::put(name, at, letter(chance[0]));
+    let b = text::put(name, a, letter(chance[1]));
+    let c = text::put(name, b, letter(chance[2]));
+    let d = text::put(name, c, letter(chance[3]));
+    let e = text::put(name, d, letter(chance[4]));
+    text::put(name, e, letter(chance[5]))
+}
+
+// The start of the name of the file that is written beside a file, in its folder: short, so that it has room where the file's own name is as long as
+// a name can be.
+fn put_beside(path: &[u8], name: &mut [u8]) -> usize
+    ensures { λ r. ⌜ Counts r (now (name .exit)) ⌝ }
+{
+    let f = folder_of(path);
+    let a = text::put_text(name, 0, &path[..f]);
+    text::put_text(name, a, b".vanc-")
+}
+
+// A file beside, and its descriptor, or -1.
+pub struct Beside {
+    pub bytes: usize,
+    pub fd: i32,
+}
+
+// Makes the file beside one that is to be made: it has the mode that new files get.
+fn make_new(path: &[u8], name: &mut [u8]) -> Beside
+    ensures { λ r. ⌜ Counts (r .bytes) (now (name .exit)) ⌝ }
+{
+    let a = put_beside(path, name);
+    let n = put_chance(name, a);
+    Beside {
+        bytes: n,
+        fd: os::create(&name[..n]),
+    }
+}
+
+// Makes the file beside one that is to be replaced: its owner alone may read it, until it has the mode of the other.
+fn make_successor(path: &[u8], name: &mut [u8]) -> Beside
+    ensures { λ r. ⌜ Counts (r .bytes) (now (name .exit)) ⌝ }
+{
+    let a = put_beside(path, name);
+    let n = text::put_text(name, a, b"XXXXXX");
+    Beside {
+        bytes: n,
+        fd: os::create_temp(&mut name[..n]),
+    }
+}
+
+fn make_beside(path: &[u8], is: Known, name: &mut [u8]) -> Beside
+    ensures { λ r. ⌜ Counts (r .bytes) (now (name .exit)) ⌝ }
+{
+    if is.kind == REGULAR {
+        return make_successor(path, name);
+    }
+    make_new(path, name)
+}
+
+// No owner, to C's fchown: leave it as it is.
+const NOBODY: u32 = 4294967295;
+
+// Gives a new file the owner, the group and the mode of the one that it replaces, where there is one. Where the owner may not be given away, the
+// bits of the mode that make others run a file as its owner are left out.
+fn succeed(fd: i32, is: Known) -> bool {
+    if is.kind != REGULAR {
+        return true;
+    }
+    if libc::fchown(fd, is.owner, is.group) == 0 {
+        return libc::fchmod(fd, is.mode) == 0;
+    }
+    libc::fchown(fd, NOBODY, is.group);
+    libc::fchmod(fd, is.mode % 512) == 0
 }
 
 // Whether all the bytes are on the disk.
-fn written(fd: i32, bytes: &[u8]) -> bool {
+fn written(fd: i32, is: Known, bytes: &[u8]) -> bool {
     if !io::write_all(fd, bytes) {
+        return false;
+    }
+    if !succeed(fd, is) {
         return false;
     }
     libc::fsync(fd) == 0
 }
 
-fn replace_by(path: &[u8], beside: &[u8], bytes: &[u8]) -> bool {
-    let fd = os::create(beside);
-    if fd < 0 {
-        os::fail(beside);
-        return false;
-    }
-    if !written(fd, bytes) {
-        os::fail(beside);
+fn not_written(name: &[u8]) {
+    fail(name, b": not written");
+}
+
+fn replace_by(name: &[u8], path: &[u8], is: Known, beside: &[u8], fd: i32, bytes: &[u8]) -> bool {
+    if !written(fd, is, bytes) {
+        not_written(name);
         libc::close(fd);
         os::unlink(beside);
         return false;
     }
     libc::close(fd);
     if os::rename(beside, path) != 0 {
-        os::fail(path);
+        not_written(name);
         os::unlink(beside);
         return false;
     }
     true
 }
 
-// Replaces a file whole or not at all: the bytes are written to a file beside it, which then takes its name. Where that fails it is said, and the
-// file is as it was.
-pub fn replace_file(path: &[u8], bytes: &[u8]) -> bool {
-    let mut name = [0u8; 4352];
-    let n = name_beside(path, &mut name);
-    replace_by(path, &name[..n], bytes)
+// Replaces the file at a path whole or not at all: the bytes are written to a file beside it, which then takes its name. Where that fails it is said,
+// and the file is as it was.
+pub fn replace_file(name: &[u8], path: &[u8], is: Known, bytes: &[u8]) -> bool {
+    let mut beside = [0u8; 4352];
+    let b = make_beside(path, is, &mut beside);
+    if b.fd < 0 {
+        not_written(name);
+        return false;
+    }
+    let n = b.bytes;
+    replace_by(name, path, is, &beside[..n], b.fd, bytes)
 }
 
-// Replaces a file by the first n of the bytes. False where there are not so many, or that fails, and the file is then as it was.
-pub fn replace_by_first(path: &[u8], bytes: &[u8], n: u64) -> bool {
+// Replaces it by the first n of the bytes. False where there are not so many, or that fails, and the file is then as it was.
+pub fn replace_by_first(name: &[u8], path: &[u8], is: Known, bytes: &[u8], n: u64) -> bool {
     let k = n as usize;
     if bytes.len() < k {
         return false;
     }
-    replace_file(path, &bytes[..k])
-}
-
-// What is wrong with a file, or with how a program is called.
-pub fn say(what: &[u8], why: &[u8]) {
-    io::write_all(STDERR_FILENO, what);
-    io::write_all(STDERR_FILENO, why);
-}
-
-// What is wrong with a sheet file that has another length than a sheet's; of another file nothing.
-pub fn explain_sheet(path: &[u8], file: &[u8]) {
-    if !sheet_file::is_whole(file) {
-        say(path, b": an odd number of bytes, or more than 65536\n");
-    }
-}
-
-// A line of the result.
-pub fn print(line: &[u8]) {
-    if !io::write_all(STDOUT_FILENO, line) {
-        os::fail(b"standard output");
-    }
-}
-
-// A line of two numbers, each behind its label.
-pub fn print_two(first: &[u8], n: u64, second: &[u8], m: u64) {
-    let mut line = [0u8; 96];
-    let k = text::put_two(&mut line, first, n, second, m);
-    print(&line[..k]);
-}
-
-// "A refusal prints one line"
-pub fn print_refusal(number: u64, place: u64) {
-    let mut line = [0u8; 64];
-    let n = text::put_refusal(&mut line, number, place);
-    print(&line[..n]);
+    replace_file(name, path, is, &bytes[..k])
 }

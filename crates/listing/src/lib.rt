@@ -100,30 +100,49 @@ fn put_first(out: &mut [u8], t: Tested) -> usize
     text::put(out, d, b'\n')
 }
 
-// The text of a file whose numbers stand in s.
-fn text_of(file: &[u8], s: &mut [u16; NUMBERS], out: &mut [u8]) -> usize
-    ensures { λ r. ⌜ Counts r (now (out .exit)) ⌝ }
+// What came of a file: the lister's tests of it, and how many bytes the text has.
+pub struct Listed {
+    pub tested: Tested,
+    pub bytes: usize,
+}
+
+// The text of a file, at the start of out, as far as there is room. The file's numbers then stand at the start of s.
+pub fn list(file: &[u8], s: &mut [u16; NUMBERS], out: &mut [u8]) -> Listed
+    ensures { λ r. ⌜ Counts (r .bytes) (now (out .exit)) ⌝ }
+    ensures tests { λ r. ⌜ r .tested ≡ testedOf (systemIn (numbersOf (now (file .entry)))) (Lister·listing (now (file .entry))) ⌝ }
 {
     let t = tested(file, s);
+    let n = text_of(file, s, t, out);
+    Listed {
+        tested: t,
+        bytes: n,
+    }
+}
+
+// The text of a file whose numbers stand in s, and which was tested.
+fn text_of(file: &[u8], s: &[u16; NUMBERS], t: Tested, out: &mut [u8]) -> usize
+    ensures { λ r. ⌜ Counts r (now (out .exit)) ⌝ }
+{
     if t.number != 0 {
         return text::put_refusal(out, t.number, t.place);
     }
     let at = put_first(out, t);
     let n = file.len() / 2;
-    if NUMBERS < n {
+    let numbers = &s[..];
+    if numbers.len() < n {
         return at;
     }
     if 65535 < t.packets {
         return at;
     }
-    let numbers = &s[..];
     put_rows(out, at, &numbers[..n], t.packets as usize)
 }
 
-// The text of a file, at the start of out, as far as there is room: how many bytes it has.
+// The text alone: how many bytes it has.
 pub fn listing(file: &[u8], out: &mut [u8]) -> usize
     ensures { λ r. ⌜ Counts r (now (out .exit)) ⌝ }
 {
     let mut s = [0u16; NUMBERS];
-    text_of(file, &mut s, out)
+    let l = list(file, &mut s, out);
+    l.bytes
 }

@@ -74,3 +74,18 @@ pub fn put_refusal(out: &mut [u8], number: u64, place: u64) -> usize
 {
     put_two(out, b"refused ", number, b" at ", place)
 }
+
+// Whether two texts are the same.
+pub fn is(a: &[u8], b: &[u8]) -> bool {
+    if a.len() != b.len() {
+        return false;
+    }
+    let mut i = 0;
+    while i < a.len() {
+        if a[i] != b[i] {
+            return false;
+        }
+        i += 1;
+    }
+    true
+}

@@ -1,14 +1,15 @@
 -- `listing::text_of` meets its contract: the sheet's numbers are a part of the buffer's.
 -- Assumes nothing.
+use lib.ListN.{length}
+use borrow.Author.Needs.{needs}
 use mathlib.Core.Path.{sym}
-use native.Mathlib.Omega.{arith}
 use lib.Seq.{length-take-le}
 use borrow.Author.Needs.{needs}
 use Rattle.listing.proofs.text_of.Statement.{statement}
 use Rattle.listing.proofs.text_of.Tie as tie
-
-tested-requires : tie.Need-tested-requires
-tested-requires c κs = search needs
+use Rattle.listing.proofs.put_first.Reads as put-first-reads
+use Rattle.listing.proofs.put_rows.Reads as put-rows-reads
+use Rattle.text.proofs.put_refusal.Reads as put-refusal-reads
 
 put-refusal-requires : tie.Need-put-refusal-requires
 put-refusal-requires c κs = search needs
@@ -35,11 +36,7 @@ returns-3 : tie.Need-returns-3
 returns-3 c = search needs
 
 slice-aggregate-put-rows : tie.Need-slice-aggregate-put-rows
-slice-aggregate-put-rows c =
-    let t = c .before .before .before .before .before .before .before .before .before .before .before .before .before .tested in
-    let k = t .kept .1 .0 in
-    let h = c .before .before .before .before .before .before .if2 .left in
-    sym (length-take-le _ (t .last .1 .0) (omega arith))
+slice-aggregate-put-rows c = sym (length-take-le _ _ (search needs))
 
 put-rows-requires : tie.Need-put-rows-requires
 put-rows-requires c κs = search needs
@@ -54,7 +51,6 @@ pub text-of-spec : {M : Type 1} → statement M
 text-of-spec =
     tie.close
     (tie.spec
-    tested-requires
     put-refusal-requires
     same-length
     returns

@@ -1,0 +1,99 @@
+// vanc lay PACKING SHEET AREA: lays the packets of a sheet file into the area that is in a file. Both are read whole, the area is replaced whole, and
+// only when the sheet is laid.
+ghost use Rattle.rules.specs.Demands.{Lays};
+ghost use Rattle.sheet_file.specs.Files.{sheetIn};
+use crate::arguments;
+use crate::arguments::NOT_A_NUMBER;
+use crate::ending;
+use crate::ending::DONE;
+use crate::ending::FAILED;
+use file_status::Known;
+use frame::Hd1080x50i;
+use rules::Laid;
+use sheet_file::LONGEST;
+use sheet_file::NUMBERS;
+
+// The packets of a sheet file, laid into an area.
+fn lay_file(file: &[u8], packing: u64, s: &mut [u16; NUMBERS], area: &mut [u8]) -> Laid
+    ensures { λ r. ⌜ Lays packing (sheetIn (now (file .entry))) (now (area .entry)) r (now (area .exit)) ⌝ }
+{
+    let n = sheet_file::decode(file, s);
+    let numbers = &s[..];
+    vanc::lay(&numbers[..n], packing, area)
+}
+
+fn refuse(r: Laid, sheet: &[u8], file: &[u8], s: &[u16; NUMBERS], area: &[u8]) -> i32 {
+    if r.number == 1 {
+        return ending::refused(b"PACKING", r.number, r.place);
+    }
+    if r.number == 4 {
+        return ending::refused(area, r.number, r.place);
+    }
+    ending::sheet_refused(sheet, file, r.number, r.place, s)
+}
+
+fn lay_and_replace(
+    packing: u64,
+    sheet: &[u8],
+    file: &[u8],
+    area: &[u8],
+    path: &[u8],
+    is: Known,
+    bytes: &mut [u8],
+) -> i32 {
+    let mut s = [0u16; NUMBERS];
+    let r = lay_file(file, packing, &mut s, bytes);
+    if r.number != 0 {
+        return refuse(r, sheet, file, &s, area);
+    }
+    if !files::replace_file(area, path, is, bytes) {
+        return FAILED;
+    }
+    let mut line = [0u8; 96];
+    let n = text::put_two(&mut line, b"laid packs ", r.packs, b" bytes ", r.bytes);
+    ending::printed(&line[..n], DONE, area)
+}
+
+// One byte more than the longest sheet file and the longest area is read, so that a longer file is seen to be longer.
+fn lay_files(packing: u64, sheet: &[u8], area: &[u8]) -> i32 {
+    let mut path = io::buffer();
+    let o = files::find_output(area, &mut path);
+    let p = o.bytes;
+    if p == 0 {
+        return FAILED;
+    }
+    let is = o.is;
+    let mut file = [0u8; LONGEST + 1];
+    let f = files::read_file(sheet, sheet, area, is, &mut file);
+    if !f.done {
+        return FAILED;
+    }
+    let mut bytes = [0u8; Hd1080x50i::AREA + 1];
+    let a = files::read_file(area, &path[..p], b"", files::no_file(), &mut bytes);
+    if !a.done {
+        return FAILED;
+    }
+    let n = f.bytes;
+    let m = a.bytes;
+    lay_and_replace(
+        packing,
+        sheet,
+        &file[..n],
+        area,
+        &path[..p],
+        is,
+        &mut bytes[..m],
+    )
+}
+
+pub fn run() -> i32 {
+    let packing = arguments::number(2, b"PACKING");
+    let mut sheet = io::buffer();
+    let n = arguments::path(3, b"SHEET", &mut sheet);
+    let mut area = io::buffer();
+    let m = arguments::path(4, b"AREA", &mut area);
+    if packing == NOT_A_NUMBER || n == 0 || m == 0 {
+        return FAILED;
+    }
+    lay_files(packing, &sheet[..n], &area[..m])
+}

@@ -1,0 +1,114 @@
+// vanc mxf-read SYSTEM FI ELEMENT SHEET: reads the packets of the ANC element (ST 436-1) that is in a file to a sheet file. The sheet file is made or
+// replaced whole, and only when the element is read.
+ghost use mathlib.Core.Path.{_≡_};
+ghost use Prim.Native.Nat.{_*_, _≤_};
+ghost use lib.ListN.{length, take};
+ghost use Rattle.rules.specs.Lister.{fileOf};
+ghost use Rattle.mxf.specs.Demands.{Reads};
+use crate::arguments;
+use crate::arguments::NOT_A_NUMBER;
+use crate::ending;
+use crate::ending::DONE;
+use crate::ending::FAILED;
+use file_status::Known;
+use mxf::ElementRead;
+use sheet_file::NUMBERS;
+
+// The bytes of the longest element file that is read. The longest element without padding that has a sheet file is of 36,882; the rest of the
+// room is for padding.
+const LONGEST: usize = 262144;
+
+// An element's packets as a sheet, and the bytes of its file.
+fn read_element(
+    system: u64,
+    fi: bool,
+    element: &[u8],
+    s: &mut [u16],
+    file: &mut [u8],
+) -> ElementRead
+    requires { ⌜ 2 * length (now s) ≤ length (now file) ⌝ }
+    ensures { λ r. ⌜ Reads system fi (now (element .entry)) (now (s .entry)) r (now (s .exit))
+        × (take (2 * r .numbers) (now (file .exit)) ≡ fileOf (take (r .numbers) (now (s .exit)))) ⌝ }
+    ensures { λ r. ⌜ r .numbers ≤ length (now (s .exit)) ⌝ }
+{
+    let r = mxf::read(system, fi, element, s);
+    let n = r.numbers as usize;
+    sheet_file::encode_first(s, n, file);
+    r
+}
+
+// A longer sheet than a sheet file can have, which no command would take, is 17.
+fn refuse(r: ElementRead, element: &[u8], sheet: &[u8]) -> i32 {
+    if r.number == 3 {
+        return ending::refused(b"SYSTEM", r.number, r.place);
+    }
+    let status = ending::refused(element, r.number, r.place);
+    if r.number == 17 {
+        ending::say_length(sheet);
+    }
+    status
+}
+
+fn read_and_replace(
+    system: u64,
+    fi: bool,
+    element: &[u8],
+    bytes: &[u8],
+    sheet: &[u8],
+    path: &[u8],
+    is: Known,
+) -> i32 {
+    let mut s = [0u16; NUMBERS];
+    let mut file = [0u8; sheet_file::LONGEST];
+    let r = read_element(system, fi, bytes, &mut s, &mut file);
+    if r.number != 0 {
+        return refuse(r, element, sheet);
+    }
+    if !files::replace_by_first(sheet, path, is, &file, 2 * r.numbers) {
+        return FAILED;
+    }
+    let mut line = [0u8; 96];
+    let n = text::put_two(
+        &mut line,
+        b"read packets ",
+        r.packets,
+        b" numbers ",
+        r.numbers,
+    );
+    ending::printed(&line[..n], DONE, sheet)
+}
+
+// One byte more than the longest element file is read, so that a longer file is seen to be longer.
+fn read_files(system: u64, fi: bool, element: &[u8], sheet: &[u8]) -> i32 {
+    let mut path = io::buffer();
+    let o = files::find_output(sheet, &mut path);
+    let p = o.bytes;
+    if p == 0 {
+        return FAILED;
+    }
+    let is = o.is;
+    let mut bytes = [0u8; LONGEST + 1];
+    let e = files::read_file(element, element, sheet, is, &mut bytes);
+    if !e.done {
+        return FAILED;
+    }
+    let n = e.bytes;
+    if LONGEST < n {
+        files::say(element, b": longer than the 262144 bytes that are read");
+        return FAILED;
+    }
+    read_and_replace(system, fi, element, &bytes[..n], sheet, &path[..p], is)
+}
+
+pub fn run() -> i32 {
+    let system = arguments::system(2);
+    let fi = arguments::bit(3, b"FI");
+    let mut element = io::buffer();
+    let n = arguments::path(4, b"ELEMENT", &mut element);
+    let mut sheet = io::buffer();
+    let m = arguments::path(5, b"SHEET", &mut sheet);
+    if system == NOT_A_NUMBER || fi == NOT_A_NUMBER || n == 0 || m == 0 {
+        return FAILED;
+    }
+    read_files(system, fi == 1, &element[..n], &sheet[..m])
+}

@@ -1,0 +1,84 @@
+// vanc mxf-write FI SHEET ELEMENT: writes the ANC element (ST 436-1) of the packets of a sheet file. The element file is made or replaced whole, and
+// only when the element is written.
+ghost use Rattle.mxf.specs.Demands.{Writes};
+ghost use Rattle.sheet_file.specs.Files.{sheetIn};
+use crate::arguments;
+use crate::arguments::NOT_A_NUMBER;
+use crate::ending;
+use crate::ending::DONE;
+use crate::ending::FAILED;
+use file_status::Known;
+use frame::LIMIT;
+use mxf::ElementWritten;
+use sheet_file::NUMBERS;
+
+// The bytes of the longest element that a sheet file gives. It has 22, one for each word and 10 for each packet, and a sheet of P packets has
+// 4 + 2P numbers beside its words: so it is the longest sheet's with the most packets.
+const LONGEST: usize = 22 + (NUMBERS - 4 - 2 * LIMIT) + 10 * LIMIT;
+
+// The element of those packets of a sheet file that FI serves.
+fn write_file(file: &[u8], fi: bool, s: &mut [u16; NUMBERS], element: &mut [u8]) -> ElementWritten
+    ensures { λ r. ⌜ Writes fi (sheetIn (now (file .entry))) (now (element .entry)) r (now (element .exit)) ⌝ }
+{
+    let n = sheet_file::decode(file, s);
+    let numbers = &s[..];
+    mxf::write(&numbers[..n], fi, element)
+}
+
+fn write_and_replace(
+    fi: bool,
+    sheet: &[u8],
+    file: &[u8],
+    element: &[u8],
+    path: &[u8],
+    is: Known,
+) -> i32 {
+    let mut s = [0u16; NUMBERS];
+    let mut bytes = [0u8; LONGEST];
+    let r = write_file(file, fi, &mut s, &mut bytes);
+    if r.number != 0 {
+        return ending::sheet_refused(sheet, file, r.number, r.place, &s);
+    }
+    if !files::replace_by_first(element, path, is, &bytes, r.bytes) {
+        return FAILED;
+    }
+    let mut line = [0u8; 96];
+    let n = text::put_two(
+        &mut line,
+        b"written packets ",
+        r.packets,
+        b" bytes ",
+        r.bytes,
+    );
+    ending::printed(&line[..n], DONE, element)
+}
+
+// One byte more than the longest sheet file is read, so that a longer file is seen to be longer.
+fn write_files(fi: bool, sheet: &[u8], element: &[u8]) -> i32 {
+    let mut path = io::buffer();
+    let o = files::find_output(element, &mut path);
+    let p = o.bytes;
+    if p == 0 {
+        return FAILED;
+    }
+    let is = o.is;
+    let mut file = [0u8; sheet_file::LONGEST + 1];
+    let f = files::read_file(sheet, sheet, element, is, &mut file);
+    if !f.done {
+        return FAILED;
+    }
+    let n = f.bytes;
+    write_and_replace(fi, sheet, &file[..n], element, &path[..p], is)
+}
+
+pub fn run() -> i32 {
+    let fi = arguments::bit(2, b"FI");
+    let mut sheet = io::buffer();
+    let n = arguments::path(3, b"SHEET", &mut sheet);
+    let mut element = io::buffer();
+    let m = arguments::path(4, b"ELEMENT", &mut element);
+    if fi == NOT_A_NUMBER || n == 0 || m == 0 {
+        return FAILED;
+    }
+    write_files(fi == 1, &sheet[..n], &element[..m])
+}

@@ -1,0 +1,101 @@
+// vanc read SYSTEM AREA SHEET: reads the packets of the area that is in a file to a sheet file. The sheet file is made or replaced whole, and only
+// when the area is read.
+ghost use mathlib.Core.Path.{_≡_};
+ghost use Prim.Native.Nat.{_*_, _≤_};
+ghost use lib.ListN.{length, take};
+ghost use Rattle.io.specs.Counts.{Counts};
+ghost use Rattle.rules.specs.Demands.{Reads};
+ghost use Rattle.rules.specs.Lister.{fileOf};
+use crate::arguments;
+use crate::arguments::NOT_A_NUMBER;
+use crate::ending;
+use crate::ending::DONE;
+use crate::ending::FAILED;
+use file_status::Known;
+use frame::Hd1080x50i;
+use frame::LIMIT;
+use rules::ReadBack;
+
+// The numbers of the longest sheet that an area has: the most packets, and the words of the longest string.
+const NUMBERS: usize = 4 + 2 * LIMIT + Hd1080x50i::STRING;
+
+// An area's packets as a sheet, and the bytes of its file.
+fn read_area(system: u64, area: &[u8], s: &mut [u16], file: &mut [u8]) -> ReadBack
+    requires { ⌜ 2 * length (now s) ≤ length (now file) ⌝ }
+    ensures { λ r. ⌜ Reads system (now (area .entry)) (now (s .entry)) r (now (s .exit))
+        × (take (2 * r .numbers) (now (file .exit)) ≡ fileOf (take (r .numbers) (now (s .exit)))) ⌝ }
+    ensures { λ r. ⌜ r .numbers ≤ length (now (s .exit)) ⌝ }
+{
+    let r = vanc::read(system, area, s);
+    let n = r.numbers as usize;
+    sheet_file::encode_first(s, n, file);
+    r
+}
+
+fn put_read(out: &mut [u8], r: ReadBack) -> usize
+    ensures { λ r. ⌜ Counts r (now (out .exit)) ⌝ }
+{
+    let a = text::put_labelled(out, 0, b"read packing ", r.packing);
+    let b = text::put_labelled(out, a, b" packets ", r.packets);
+    let c = text::put_labelled(out, b, b" numbers ", r.numbers);
+    text::put(out, c, b'\n')
+}
+
+fn refuse(r: ReadBack, area: &[u8]) -> i32 {
+    if r.number == 3 {
+        return ending::refused(b"SYSTEM", r.number, r.place);
+    }
+    ending::refused(area, r.number, r.place)
+}
+
+fn read_and_replace(
+    system: u64,
+    area: &[u8],
+    bytes: &[u8],
+    sheet: &[u8],
+    path: &[u8],
+    is: Known,
+) -> i32 {
+    let mut s = [0u16; NUMBERS];
+    let mut file = [0u8; 2 * NUMBERS];
+    let r = read_area(system, bytes, &mut s, &mut file);
+    if r.number != 0 {
+        return refuse(r, area);
+    }
+    if !files::replace_by_first(sheet, path, is, &file, 2 * r.numbers) {
+        return FAILED;
+    }
+    let mut line = [0u8; 128];
+    let n = put_read(&mut line, r);
+    ending::printed(&line[..n], DONE, sheet)
+}
+
+// One byte more than the longest area is read, so that a longer file is seen to be longer.
+fn read_files(system: u64, area: &[u8], sheet: &[u8]) -> i32 {
+    let mut path = io::buffer();
+    let o = files::find_output(sheet, &mut path);
+    let p = o.bytes;
+    if p == 0 {
+        return FAILED;
+    }
+    let is = o.is;
+    let mut bytes = [0u8; Hd1080x50i::AREA + 1];
+    let a = files::read_file(area, area, sheet, is, &mut bytes);
+    if !a.done {
+        return FAILED;
+    }
+    let n = a.bytes;
+    read_and_replace(system, area, &bytes[..n], sheet, &path[..p], is)
+}
+
+pub fn run() -> i32 {
+    let system = arguments::system(2);
+    let mut area = io::buffer();
+    let n = arguments::path(3, b"AREA", &mut area);
+    let mut sheet = io::buffer();
+    let m = arguments::path(4, b"SHEET", &mut sheet);
+    if system == NOT_A_NUMBER || n == 0 || m == 0 {
+        return FAILED;
+    }
+    read_files(system, &area[..n], &sheet[..m])
+}
