@@ -1,7 +1,5 @@
 // vanc lay PACKING SHEET AREA: lays the packets of a sheet file into the area that is in a file. Both are read whole, the area is replaced whole, and
 // only when the sheet is laid.
-ghost use Rattle.rules.specs.Demands.{Lays};
-ghost use Rattle.sheet_file.specs.Files.{sheetIn};
 use crate::arguments;
 use crate::arguments::NOT_A_NUMBER;
 use crate::ending;
@@ -12,15 +10,6 @@ use frame::Hd1080x50i;
 use rules::Laid;
 use sheet_file::LONGEST;
 use sheet_file::NUMBERS;
-
-// The packets of a sheet file, laid into an area.
-fn lay_file(file: &[u8], packing: u64, s: &mut [u16; NUMBERS], area: &mut [u8]) -> Laid
-    ensures { λ r. ⌜ Lays packing (sheetIn (now (file .entry))) (now (area .entry)) r (now (area .exit)) ⌝ }
-{
-    let n = sheet_file::decode(file, s);
-    let numbers = &s[..];
-    vanc::lay(&numbers[..n], packing, area)
-}
 
 fn refuse(r: Laid, sheet: &[u8], file: &[u8], s: &[u16; NUMBERS], area: &[u8]) -> i32 {
     if r.number == 1 {
@@ -42,7 +31,7 @@ fn lay_and_replace(
     bytes: &mut [u8],
 ) -> i32 {
     let mut s = [0u16; NUMBERS];
-    let r = lay_file(file, packing, &mut s, bytes);
+    let r = file_codec::lay_file(file, packing, &mut s, bytes);
     if r.number != 0 {
         return refuse(r, sheet, file, &s, area);
     }

@@ -1,6 +1,6 @@
 // The command `vanc`: its first argument names what it does, and each of those commands is a file of its own. It ends with status 0, done; 1, refused
 // by the rules; 2, called wrongly, or a file or a stream that could not be read or written. What it prints and what it does with files is tested, and
-// not proved; that it lays, reads and writes what the rules say, `lay_file`, `read_area`, `write_file` and `read_element` promise.
+// not proved; that it lays, reads and writes what the rules say, the contracts of `file_codec` promise.
 mod arguments;
 mod ending;
 mod help;

@@ -1,10 +1,5 @@
 // vanc mxf-read SYSTEM FI ELEMENT SHEET: reads the packets of the ANC element (ST 436-1) that is in a file to a sheet file. The sheet file is made or
 // replaced whole, and only when the element is read.
-ghost use mathlib.Core.Path.{_≡_};
-ghost use Prim.Native.Nat.{_*_, _≤_};
-ghost use lib.ListN.{length, take};
-ghost use Rattle.rules.specs.Lister.{fileOf};
-ghost use Rattle.mxf.specs.Demands.{Reads};
 use crate::arguments;
 use crate::arguments::NOT_A_NUMBER;
 use crate::ending;
@@ -17,25 +12,6 @@ use sheet_file::NUMBERS;
 // The bytes of the longest element file that is read. The longest element without padding that has a sheet file is of 36,882; the rest of the
 // room is for padding.
 const LONGEST: usize = 262144;
-
-// An element's packets as a sheet, and the bytes of its file.
-fn read_element(
-    system: u64,
-    fi: bool,
-    element: &[u8],
-    s: &mut [u16],
-    file: &mut [u8],
-) -> ElementRead
-    requires { ⌜ 2 * length (now s) ≤ length (now file) ⌝ }
-    ensures { λ r. ⌜ Reads system fi (now (element .entry)) (now (s .entry)) r (now (s .exit))
-        × (take (2 * r .numbers) (now (file .exit)) ≡ fileOf (take (r .numbers) (now (s .exit)))) ⌝ }
-    ensures { λ r. ⌜ r .numbers ≤ length (now (s .exit)) ⌝ }
-{
-    let r = mxf::read(system, fi, element, s);
-    let n = r.numbers as usize;
-    sheet_file::encode_first(s, n, file);
-    r
-}
 
 // A longer sheet than a sheet file can have, which no command would take, is 17.
 fn refuse(r: ElementRead, element: &[u8], sheet: &[u8]) -> i32 {
@@ -60,7 +36,7 @@ fn read_and_replace(
 ) -> i32 {
     let mut s = [0u16; NUMBERS];
     let mut file = [0u8; sheet_file::LONGEST];
-    let r = read_element(system, fi, bytes, &mut s, &mut file);
+    let r = file_codec::read_element(system, fi, bytes, &mut s, &mut file);
     if r.number != 0 {
         return refuse(r, element, sheet);
     }

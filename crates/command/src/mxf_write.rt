@@ -1,7 +1,5 @@
 // vanc mxf-write FI SHEET ELEMENT: writes the ANC element (ST 436-1) of the packets of a sheet file. The element file is made or replaced whole, and
 // only when the element is written.
-ghost use Rattle.mxf.specs.Demands.{Writes};
-ghost use Rattle.sheet_file.specs.Files.{sheetIn};
 use crate::arguments;
 use crate::arguments::NOT_A_NUMBER;
 use crate::ending;
@@ -16,15 +14,6 @@ use sheet_file::NUMBERS;
 // 4 + 2P numbers beside its words: so it is the longest sheet's with the most packets.
 const LONGEST: usize = 22 + (NUMBERS - 4 - 2 * LIMIT) + 10 * LIMIT;
 
-// The element of those packets of a sheet file that FI serves.
-fn write_file(file: &[u8], fi: bool, s: &mut [u16; NUMBERS], element: &mut [u8]) -> ElementWritten
-    ensures { λ r. ⌜ Writes fi (sheetIn (now (file .entry))) (now (element .entry)) r (now (element .exit)) ⌝ }
-{
-    let n = sheet_file::decode(file, s);
-    let numbers = &s[..];
-    mxf::write(&numbers[..n], fi, element)
-}
-
 fn write_and_replace(
     fi: bool,
     sheet: &[u8],
@@ -35,7 +24,7 @@ fn write_and_replace(
 ) -> i32 {
     let mut s = [0u16; NUMBERS];
     let mut bytes = [0u8; LONGEST];
-    let r = write_file(file, fi, &mut s, &mut bytes);
+    let r = file_codec::write_element(file, fi, &mut s, &mut bytes);
     if r.number != 0 {
         return ending::sheet_refused(sheet, file, r.number, r.place, &s);
     }

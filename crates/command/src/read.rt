@@ -1,11 +1,6 @@
 // vanc read SYSTEM AREA SHEET: reads the packets of the area that is in a file to a sheet file. The sheet file is made or replaced whole, and only
 // when the area is read.
-ghost use mathlib.Core.Path.{_≡_};
-ghost use Prim.Native.Nat.{_*_, _≤_};
-ghost use lib.ListN.{length, take};
 ghost use Rattle.io.specs.Counts.{Counts};
-ghost use Rattle.rules.specs.Demands.{Reads};
-ghost use Rattle.rules.specs.Lister.{fileOf};
 use crate::arguments;
 use crate::arguments::NOT_A_NUMBER;
 use crate::ending;
@@ -18,19 +13,6 @@ use rules::ReadBack;
 
 // The numbers of the longest sheet that an area has: the most packets, and the words of the longest string.
 const NUMBERS: usize = 4 + 2 * LIMIT + Hd1080x50i::STRING;
-
-// An area's packets as a sheet, and the bytes of its file.
-fn read_area(system: u64, area: &[u8], s: &mut [u16], file: &mut [u8]) -> ReadBack
-    requires { ⌜ 2 * length (now s) ≤ length (now file) ⌝ }
-    ensures { λ r. ⌜ Reads system (now (area .entry)) (now (s .entry)) r (now (s .exit))
-        × (take (2 * r .numbers) (now (file .exit)) ≡ fileOf (take (r .numbers) (now (s .exit)))) ⌝ }
-    ensures { λ r. ⌜ r .numbers ≤ length (now (s .exit)) ⌝ }
-{
-    let r = vanc::read(system, area, s);
-    let n = r.numbers as usize;
-    sheet_file::encode_first(s, n, file);
-    r
-}
 
 fn put_read(out: &mut [u8], r: ReadBack) -> usize
     ensures { λ r. ⌜ Counts r (now (out .exit)) ⌝ }
@@ -58,7 +40,7 @@ fn read_and_replace(
 ) -> i32 {
     let mut s = [0u16; NUMBERS];
     let mut file = [0u8; 2 * NUMBERS];
-    let r = read_area(system, bytes, &mut s, &mut file);
+    let r = file_codec::read_area(system, bytes, &mut s, &mut file);
     if r.number != 0 {
         return refuse(r, area);
     }

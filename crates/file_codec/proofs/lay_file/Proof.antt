@@ -1,10 +1,10 @@
--- `command::lay::lay_file` meets its contract: what is laid is the sheet in the file.
+-- `file_codec::lay_file` meets its contract: what is laid is the sheet in the file.
 -- Assumes nothing.
 use mathlib.Core.Path.{sym, ap, _∙_}
 use lib.ListN.{length}
 use borrow.Author.Needs.{needs}
-use Rattle.command.proofs.lay.lay_file.Statement.{statement}
-use Rattle.command.proofs.lay.lay_file.Tie as tie
+use Rattle.file_codec.proofs.lay_file.Statement.{statement}
+use Rattle.file_codec.proofs.lay_file.Tie as tie
 
 decode-requires : tie.Need-decode-requires
 decode-requires c κs = search needs

@@ -1,10 +1,10 @@
--- `command::mxf_read::read_element` meets its contract: the sheet has room in its buffer, and its file in that for the file.
+-- `file_codec::read_element` meets its contract: the sheet has room in its buffer, and its file in that for the file.
 -- Assumes nothing.
 use borrow.Author.Needs.{needs}
 use Rattle.mxf.proofs.Accepting.{read-within}
 use Rattle.sheet_file.proofs.Laws.{encoded}
-use Rattle.command.proofs.mxf_read.read_element.Statement.{statement}
-use Rattle.command.proofs.mxf_read.read_element.Tie as tie
+use Rattle.file_codec.proofs.read_element.Statement.{statement}
+use Rattle.file_codec.proofs.read_element.Tie as tie
 
 read-requires : tie.Need-read-requires
 read-requires c κs = search needs

@@ -1,10 +1,10 @@
--- `command::mxf_write::write_file` meets its contract: what is written is the element of the sheet in the file.
+-- `file_codec::write_element` meets its contract: what is written is the element of the sheet in the file.
 -- Assumes nothing.
 use mathlib.Core.Path.{sym, ap, _∙_}
 use lib.ListN.{length}
 use borrow.Author.Needs.{needs}
-use Rattle.command.proofs.mxf_write.write_file.Statement.{statement}
-use Rattle.command.proofs.mxf_write.write_file.Tie as tie
+use Rattle.file_codec.proofs.write_element.Statement.{statement}
+use Rattle.file_codec.proofs.write_element.Tie as tie
 
 decode-requires : tie.Need-decode-requires
 decode-requires c κs = search needs
@@ -21,6 +21,6 @@ same-length c = search needs
 returns : tie.Need-returns
 returns c = rw (← (c .before .before .before .before .before .before .before .decode .ensures .1)) (c .before .before .write .ensures)
 
-pub write-file-spec : {M : Type 1} → statement M
-write-file-spec =
+pub write-element-spec : {M : Type 1} → statement M
+write-element-spec =
     tie.close (tie.spec decode-requires slice-aggregate-write write-requires same-length returns)

@@ -1,10 +1,10 @@
--- `command::read::read_area` meets its contract: the sheet has room in its buffer, and its file in that for the file.
+-- `file_codec::read_area` meets its contract: the sheet has room in its buffer, and its file in that for the file.
 -- Assumes nothing.
 use borrow.Author.Needs.{needs}
 use Rattle.rules.proofs.Reading.{read-within}
 use Rattle.sheet_file.proofs.Laws.{encoded}
-use Rattle.command.proofs.read.read_area.Statement.{statement}
-use Rattle.command.proofs.read.read_area.Tie as tie
+use Rattle.file_codec.proofs.read_area.Statement.{statement}
+use Rattle.file_codec.proofs.read_area.Tie as tie
 
 read-requires : tie.Need-read-requires
 read-requires c κs = search needs
