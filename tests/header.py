@@ -113,6 +113,11 @@ def rattle_functions(text):
     return found
 
 
+def alone(ours, theirs):
+    """What each of two lists has that the other has not."""
+    return f"only the first has {[x for x in ours if x not in theirs]}, only the second {[x for x in theirs if x not in ours]}"
+
+
 def number_differences(header, words):
     """The names, the table in the header's first comment, and the words."""
     text = without_comments(header)
@@ -125,8 +130,7 @@ def number_differences(header, words):
         said.append(f"numbers: the table in the header has {table}, the names {numbers}")
     have, want = header_words(text), [(0, "done")] + words
     if have != want:
-        there, here = [w for w in want if w not in have], [w for w in have if w not in want]
-        said.append(f"words: in the header alone {here}, in the command's table alone {there}")
+        said.append(f"words of the header and of the command's table: {alone(have, want)}")
     return said
 
 
@@ -168,15 +172,15 @@ WRONG = [
     ("uint64_t system, bool fi, const uint8_t *element", "bool fi, uint64_t system, const uint8_t *element"),
     ("} vanc_element_read;", "    uint64_t bytes;\n} vanc_element_read;"),
     ("its checksum word is wrong", "its checksum is wrong"),
-    ("the limit of 512", "the limit of 511"),
+    ("the limit of ", "the limit of 1"),
     ("case VANC_REFUSED_LENGTH:", "case VANC_REFUSED_LINE:"),
     ("    case VANC_REFUSED_ELEMENT:\n", "    case VANC_REFUSED_ELEMENT + 1:\n"),
     ("VANC_REFUSED_PACKS = 13", "VANC_REFUSED_PACKS = 14"),
     ("VANC_REFUSED_START = 7,\n    VANC_REFUSED_WORD = 8", "VANC_REFUSED_WORD = 7,\n    VANC_REFUSED_START = 8"),
     (" *   19  the element", " *   20  the element"),
-    ("#define VANC_VERSION_NUMBER 200", "#define VANC_VERSION_NUMBER 20"),
-    ('#define VANC_VERSION "0.2.0"', '#define VANC_VERSION "0.2.1"'),
-    ("#define VANC_TOOLCHAIN \"", "#define VANC_TOOLCHAIN \"another "),
+    ("#define VANC_VERSION_NUMBER ", "#define VANC_VERSION_NUMBER 1"),
+    ('#define VANC_VERSION "', '#define VANC_VERSION "1'),
+    ('#define VANC_TOOLCHAIN "', '#define VANC_TOOLCHAIN "another '),
 ]
 
 
