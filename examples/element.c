@@ -1,7 +1,8 @@
 /*
  * Writes the MXF ANC elements of the two frames of a 720/60p sheet, reads one back, and says what is wrong with a damaged one.
  *
- *     cc -I include examples/element.c libvanc.a -o element
+ *     rt staticlib vanc
+ *     cc -I include examples/element.c target/staticlib/libvanc.a -o element
  */
 #include "vanc.h"
 
@@ -27,11 +28,16 @@ static const uint16_t first[] = {
 static uint8_t element[VANC_ELEMENT_MAX];
 static uint16_t back[VANC_ELEMENT_SHEET_MAX];
 
+static void print_refusal(uint64_t number, uint64_t place)
+{
+    printf("refused %" PRIu64 " at %" PRIu64 ": %s\n", number, place, vanc_refusal_text(number));
+}
+
 static size_t write_element(bool fi)
 {
     vanc_element_written written = vanc_mxf_write(sheet, sizeof sheet / sizeof sheet[0], fi, element, sizeof element);
-    if (written.number != 0) {
-        printf("refused %" PRIu64 " at %" PRIu64 "\n", written.number, written.place);
+    if (written.number != VANC_DONE) {
+        print_refusal(written.number, written.place);
         return 0;
     }
     printf("written packets %" PRIu64 " bytes %" PRIu64 "\n", written.packets, written.bytes);
@@ -46,11 +52,11 @@ int main(void)
     size_t bytes = write_element(false);
     vanc_element_read read = vanc_mxf_read(3, false, element, bytes, back, VANC_ELEMENT_SHEET_MAX);
     printf("read packets %" PRIu64 " numbers %" PRIu64 "\n", read.packets, read.numbers);
-    if (read.number != 0 || read.numbers != sizeof first / sizeof first[0] || memcmp(first, back, sizeof first) != 0) {
+    if (read.number != VANC_DONE || read.numbers != sizeof first / sizeof first[0] || memcmp(first, back, sizeof first) != 0) {
         return 1;
     }
     element[15] = 0; /* the end of the key */
     read = vanc_mxf_read(3, false, element, bytes, back, VANC_ELEMENT_SHEET_MAX);
-    printf("refused %" PRIu64 " at %" PRIu64 "\n", read.number, read.place);
-    return memcmp(first, back, sizeof first) != 0;
+    print_refusal(read.number, read.place);
+    return read.number != VANC_REFUSED_ELEMENT || memcmp(first, back, sizeof first) != 0;
 }

@@ -1,7 +1,8 @@
 /*
  * Lays two packets into the area of a 1080/60i frame, reads them back, and walks over the same two packets as a string.
  *
- *     cc -I include examples/frame.c libvanc.a -o frame
+ *     rt staticlib vanc
+ *     cc -I include examples/frame.c target/staticlib/libvanc.a -o frame
  */
 #include "vanc.h"
 
@@ -19,22 +20,26 @@ static const uint16_t sheet[] = {
 
 #define SHEET_LEN (sizeof sheet / sizeof sheet[0])
 
+static int refused(uint64_t number, uint64_t place)
+{
+    printf("refused %" PRIu64 " at %" PRIu64 ": %s\n", number, place, vanc_refusal_text(number));
+    return 1;
+}
+
 static int lay_and_read(uint64_t packing)
 {
     static uint8_t area[VANC_AREA_1080_60I];
     static uint16_t back[VANC_SHEET_MAX];
 
     vanc_laid laid = vanc_lay(sheet, SHEET_LEN, packing, area, sizeof area);
-    if (laid.number != 0) {
-        printf("refused %" PRIu64 " at %" PRIu64 "\n", laid.number, laid.place);
-        return 1;
+    if (laid.number != VANC_DONE) {
+        return refused(laid.number, laid.place);
     }
     printf("laid packs %" PRIu64 " bytes %" PRIu64 "\n", laid.packs, laid.bytes);
 
     vanc_read_back read = vanc_read(1, area, sizeof area, back, VANC_SHEET_MAX);
-    if (read.number != 0) {
-        printf("refused %" PRIu64 " at %" PRIu64 "\n", read.number, read.place);
-        return 1;
+    if (read.number != VANC_DONE) {
+        return refused(read.number, read.place);
     }
     printf("read packing %" PRIu64 " packets %" PRIu64 " numbers %" PRIu64 "\n", read.packing, read.packets, read.numbers);
     return read.numbers != SHEET_LEN || memcmp(sheet, back, sizeof sheet) != 0;
@@ -51,7 +56,7 @@ static int walk(void)
         printf("packet at %" PRIu64 " of %" PRIu64 " bytes\n", step.place, step.length);
         step = vanc_walk(1, string, sizeof string, step.place + step.length);
     }
-    return step.number != 0 || step.place != sizeof string;
+    return step.number != VANC_DONE || step.place != sizeof string;
 }
 
 int main(void)

@@ -1,6 +1,7 @@
 //! Lays two packets into the area of a 1080/60i frame, and reads them back.
 //!
-//!     rustc -L . -l static=vanc examples/frame.rs
+//!     rt staticlib vanc
+//!     rustc -L target/staticlib -l static=vanc examples/frame.rs
 
 /// What laying gives back; see include/vanc.h.
 #[repr(C)]

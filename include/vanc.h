@@ -43,6 +43,13 @@
 extern "C" {
 #endif
 
+/* This version, and as one number for #if: 10000 x major + 100 x minor + patch. */
+#define VANC_VERSION "0.2.0"
+#define VANC_VERSION_NUMBER 200
+
+/* The toolchain that all was proved with. */
+#define VANC_TOOLCHAIN "rattle-kit-5b-plain logic 097e4c862dff5811"
+
 /* The VAUX blocks of a frame, in bytes. */
 #define VANC_AREA_1080_60I 9600
 #define VANC_AREA_1080_50I 11520
@@ -56,6 +63,79 @@ extern "C" {
 
 /* Numbers that the sheet of every element has room in: 512 locations and 65,535 words. */
 #define VANC_ELEMENT_SHEET_MAX 66563
+
+/* The numbers by name. */
+enum {
+    VANC_DONE = 0,
+    VANC_REFUSED_PACKING = 1,
+    VANC_REFUSED_COUNTS = 2,
+    VANC_REFUSED_SYSTEM = 3,
+    VANC_REFUSED_AREA = 4,
+    VANC_REFUSED_LIMIT = 5,
+    VANC_REFUSED_LOCATION = 6,
+    VANC_REFUSED_START = 7,
+    VANC_REFUSED_WORD = 8,
+    VANC_REFUSED_CUT = 9,
+    VANC_REFUSED_CHECKSUM = 10,
+    VANC_REFUSED_NUMBER = 11,
+    VANC_REFUSED_ROOM = 12,
+    VANC_REFUSED_PACKS = 13,
+    VANC_REFUSED_LENGTH = 14,
+    VANC_REFUSED_STORED_CHECKSUM = 15,
+    VANC_REFUSED_LINE = 16,
+    VANC_REFUSED_BUFFER = 17,
+    VANC_REFUSED_NO_LINE = 18,
+    VANC_REFUSED_ELEMENT = 19
+};
+
+/* What a number says, in words: "done" for 0, "no number of a refusal" for one that no call gives. The command `vanc` says the same words. */
+static inline const char *vanc_refusal_text(uint64_t number)
+{
+    switch (number) {
+    case VANC_DONE:
+        return "done";
+    case VANC_REFUSED_PACKING:
+        return "the packing is neither 1 (packs of five) nor 2 (long packs)";
+    case VANC_REFUSED_COUNTS:
+        return "the sheet's counts do not agree with its length";
+    case VANC_REFUSED_SYSTEM:
+        return "the system is not 1 (1080/60i), 2 (1080/50i) or 3 (720/60p)";
+    case VANC_REFUSED_AREA:
+        return "the area is not as long as the system's: 9600 bytes, or 11520 in 1080/50i";
+    case VANC_REFUSED_LIMIT:
+        return "more packets than the limit of 512";
+    case VANC_REFUSED_LOCATION:
+        return "the line is past the system's last, or the flags are over 3";
+    case VANC_REFUSED_START:
+        return "it does not begin with 000h 3FFh 3FFh, or has fewer than 7 words";
+    case VANC_REFUSED_WORD:
+        return "a word from DID to the last user word is not its byte with parity";
+    case VANC_REFUSED_CUT:
+        return "it is cut off: its DC asks for more words than are left";
+    case VANC_REFUSED_CHECKSUM:
+        return "its checksum word is wrong";
+    case VANC_REFUSED_NUMBER:
+        return "packets and locations differ in number";
+    case VANC_REFUSED_ROOM:
+        return "the frame has no room for all packets in this packing";
+    case VANC_REFUSED_PACKS:
+        return "the packs are not laid by the rules of SMPTE 375M";
+    case VANC_REFUSED_LENGTH:
+        return "its length or its fill is wrong";
+    case VANC_REFUSED_STORED_CHECKSUM:
+        return "its stored checksum is wrong";
+    case VANC_REFUSED_LINE:
+        return "its line is 0 or past the system's last";
+    case VANC_REFUSED_BUFFER:
+        return "the result is longer than the room for it";
+    case VANC_REFUSED_NO_LINE:
+        return "it has no line, which an element asks for";
+    case VANC_REFUSED_ELEMENT:
+        return "the element is not of the form of SMPTE ST 436-1 from here on";
+    default:
+        return "no number of a refusal";
+    }
+}
 
 /* What laying gives back. On refusal packs and bytes are 0. */
 typedef struct {

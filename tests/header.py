@@ -2,8 +2,12 @@
 """include/vanc.h says what the library exports: the same functions, with the same arguments in the same order and widths, and structs of the same
 fields. Compared are the header, the functions marked `extern "C"` with the shapes that they give back, and the symbols of the archive.
 
-    header.py HEADER SYMBOLS RATTLE..      SYMBOLS is what `nm` prints of the archive
+The names of the numbers are 0 and on without a gap, and its words are those of the table that the command prints from. Its version as a number is its
+version in digits, its toolchain that of the file TOOLCHAIN.
 
+    header.py HEADER SYMBOLS TOOLCHAIN REFUSALS FRAME RATTLE..
+
+SYMBOLS is what `nm` prints of the archive, REFUSALS the Rattle file with the table of words, FRAME the one with the packet limit that stands in it.
 The comparison has to be able to fail: it is also made with headers that are wrong in one place each.
 """
 import re
@@ -48,6 +52,39 @@ def header_functions(text):
     return found
 
 
+def header_names(text):
+    """The numbers by name, in the header's order."""
+    return [(name, int(number)) for name, number in re.findall(r"\b(VANC_DONE|VANC_REFUSED_\w+) = (\d+)", text)]
+
+
+def header_words(text):
+    """What vanc_refusal_text says of each number that has a name."""
+    numbers = dict(header_names(text))
+    body = re.search(r"static inline const char \*vanc_refusal_text\(uint64_t number\)\s*\{(.*?)\n\}", text, flags=re.S)
+    cases = re.findall(r'case (\w+):\s*return "([^"\\]*)";', body.group(1)) if body else []
+    return [(numbers.get(name), words) for name, words in cases]
+
+
+def header_constant(text, name):
+    m = re.search(rf'^#define {name} (?:"([^"]*)"|(\d+))$', text, flags=re.M)
+    return (m.group(1) or m.group(2)) if m else None
+
+
+def rattle_limit(frame):
+    return re.search(r"^pub const LIMIT: \w+ = (\d+);$", frame, flags=re.M).group(1)
+
+
+def rattle_words(text, limit):
+    """The arms of the table: a number, and the text that is put; behind a label stands the packet limit."""
+    arm = r'\b(\d+) => \{?\s*(?:\w+::)*put_(text|labelled)\(\s*\w+,\s*\w+,\s*b"([^"\\]*)",?\s*((?:\w+::)*LIMIT\b[^,()]*,?\s*)?\)'
+    found = []
+    for number, kind, words, behind in re.findall(arm, without_comments(text)):
+        if (kind == "labelled") != bool(behind):
+            raise SystemExit(f"the table of words: arm {number} is neither a text nor a label with the limit")
+        found.append((int(number), words + limit if behind else words))
+    return found
+
+
 def rattle_structs(text):
     found = {}
     for name, body in re.findall(r"#\[repr\(C\)\]\s*pub struct (\w+) \{(.*?)\}", text, flags=re.S):
@@ -76,7 +113,39 @@ def rattle_functions(text):
     return found
 
 
-def differences(header, symbols, rattle):
+def alone(ours, theirs):
+    """What each of two lists has that the other has not."""
+    return f"only the first has {[x for x in ours if x not in theirs]}, only the second {[x for x in theirs if x not in ours]}"
+
+
+def number_differences(header, words):
+    """The names, the table in the header's first comment, and the words."""
+    text = without_comments(header)
+    numbers = [number for _, number in header_names(text)]
+    said = []
+    if not numbers or numbers != list(range(len(numbers))):
+        said.append(f"names: their numbers are {numbers}")
+    table = [int(number) for number in re.findall(r"^ \* {3,4}(\d+)  \S", header, flags=re.M)]
+    if table != numbers[1:]:
+        said.append(f"numbers: the table in the header has {table}, the names {numbers}")
+    have, want = header_words(text), [(0, "done")] + words
+    if have != want:
+        said.append(f"words of the header and of the command's table: {alone(have, want)}")
+    return said
+
+
+def version_differences(header, toolchain):
+    said = []
+    version, number = header_constant(header, "VANC_VERSION"), header_constant(header, "VANC_VERSION_NUMBER")
+    m = re.fullmatch(r"(\d+)\.(\d\d?)\.(\d\d?)", version or "")
+    if not m or number != str(10000 * int(m.group(1)) + 100 * int(m.group(2)) + int(m.group(3))):
+        said.append(f"version: the header has {version} and as a number {number}")
+    if header_constant(header, "VANC_TOOLCHAIN") != toolchain:
+        said.append(f"toolchain: the header has {header_constant(header, 'VANC_TOOLCHAIN')}, the project {toolchain}")
+    return said
+
+
+def differences(header, symbols, toolchain, words, rattle):
     text = without_comments(header)
     declared, exported = header_functions(text), rattle_functions(rattle)
     said = []
@@ -89,7 +158,7 @@ def differences(header, symbols, rattle):
     names = set(re.findall(r"^[0-9a-f]+ T (vanc_\w+)$", symbols, flags=re.M))
     if names != set(declared):
         said.append(f"symbols: the archive has {sorted(names)}, the header {sorted(declared)}")
-    return said
+    return said + number_differences(header, words) + version_differences(header, toolchain)
 
 
 WRONG = [
@@ -102,23 +171,34 @@ WRONG = [
     ("bool fi, uint8_t *element", "uint8_t fi, uint8_t *element"),
     ("uint64_t system, bool fi, const uint8_t *element", "bool fi, uint64_t system, const uint8_t *element"),
     ("} vanc_element_read;", "    uint64_t bytes;\n} vanc_element_read;"),
+    ("its checksum word is wrong", "its checksum is wrong"),
+    ("the limit of ", "the limit of 1"),
+    ("case VANC_REFUSED_LENGTH:", "case VANC_REFUSED_LINE:"),
+    ("    case VANC_REFUSED_ELEMENT:\n", "    case VANC_REFUSED_ELEMENT + 1:\n"),
+    ("VANC_REFUSED_PACKS = 13", "VANC_REFUSED_PACKS = 14"),
+    ("VANC_REFUSED_START = 7,\n    VANC_REFUSED_WORD = 8", "VANC_REFUSED_WORD = 7,\n    VANC_REFUSED_START = 8"),
+    (" *   19  the element", " *   20  the element"),
+    ("#define VANC_VERSION_NUMBER ", "#define VANC_VERSION_NUMBER 1"),
+    ('#define VANC_VERSION "', '#define VANC_VERSION "1'),
+    ('#define VANC_TOOLCHAIN "', '#define VANC_TOOLCHAIN "another '),
 ]
 
 
 def main():
-    header = open(sys.argv[1]).read()
-    symbols = open(sys.argv[2]).read()
-    rattle = "\n".join(open(path).read() for path in sys.argv[3:])
-    said = differences(header, symbols, rattle)
+    header, symbols, toolchain, refusals, frame = [open(path).read() for path in sys.argv[1:6]]
+    rattle = "\n".join(open(path).read() for path in sys.argv[6:])
+    toolchain = toolchain.rstrip("\n")
+    words = rattle_words(refusals, rattle_limit(frame))
+    said = differences(header, symbols, toolchain, words, rattle)
     for old, new in WRONG:
         wrong = header.replace(old, new, 1)
-        if wrong == header or not differences(wrong, symbols, rattle):
+        if wrong == header or not differences(wrong, symbols, toolchain, words, rattle):
             said.append(f"a header with '{new}' for '{old}' is not told from the library")
     for line in said:
         print(line)
     if said:
         sys.exit(1)
-    print(f"header: {len(rattle_functions(rattle))} functions agree; {len(WRONG)} wrong headers told")
+    print(f"header: {len(rattle_functions(rattle))} functions and {len(words)} refusals agree; {len(WRONG)} wrong headers told")
 
 
 if __name__ == "__main__":
