@@ -82,13 +82,12 @@ behind() {
 
 # made_of CRATE: one line for the toolchain and all files that CRATE is proved and built of.
 made_of() {
-  local crate
+  local crates
+  mapfile -t crates < <(behind "$1")
   {
     rt version
-    for crate in $(behind "$1"); do
-      grep "^$crate:" crates.txt
-      find "crates/$crate" -name must-fail -prune -o -type f -exec sha256sum {} + | LC_ALL=C sort
-    done
+    printf '^%s:\n' "${crates[@]}" | grep -f - crates.txt
+    find "${crates[@]/#/crates/}" -name must-fail -prune -o -type f -exec sha256sum {} + | LC_ALL=C sort
   } | sha256sum
 }
 
