@@ -1,13 +1,13 @@
--- `command::help::put_refusals` meets its contract: the lines stay within the buffer, and their numbers rise.
+-- `manual::help::put_refusals` meets its contract: the lines stay within the buffer, and their numbers rise.
 -- Assumes nothing.
 use Prim.Native.Nat.{_-_, _≤_}
 use mathlib.Core.Path.{_≡_}
 use lib.ListN.{length}
 use borrow.Author.Needs.{needs}
 use Rattle.io.proofs.Counting.{counts}
-use Rattle.command.proofs.help.put_refusals.Statement.{statement}
-use Rattle.command.proofs.help.put_refusals.Tie as tie
-use Rattle.command.proofs.help.put_number.Reads as put-number-reads
+use Rattle.manual.proofs.help.put_refusals.Statement.{statement}
+use Rattle.manual.proofs.help.put_refusals.Tie as tie
+use Rattle.manual.proofs.help.put_number.Reads as put-number-reads
 
 abbrev Inv-loop : tie.InvT-loop
 Inv-loop out₀ at₀ number₀ out at number = (length out ≡ length out₀) × (at ≤ length out) × (number ≤ 20)

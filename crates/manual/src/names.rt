@@ -1,6 +1,6 @@
-// The commands by name, and how many arguments each takes. A command that is added stands here, in `help`, and in `run`.
+// The commands by name, and how many arguments each takes. A command that is added stands here, in `help`, and in `commands`.
 ghost use Rattle.io.specs.Counts.{Counts};
-use crate::ending::FAILED;
+use console::ending::FAILED;
 
 pub enum Command {
     List,

@@ -1,11 +1,11 @@
 // vanc read SYSTEM AREA SHEET: reads the packets of the area that is in a file to a sheet file. The sheet file is made or replaced whole, and only
 // when the area is read.
 ghost use Rattle.io.specs.Counts.{Counts};
-use crate::arguments;
-use crate::arguments::NOT_A_NUMBER;
-use crate::ending;
-use crate::ending::DONE;
-use crate::ending::FAILED;
+use console::arguments;
+use console::arguments::NOT_A_NUMBER;
+use console::ending;
+use console::ending::DONE;
+use console::ending::FAILED;
 use file_status::Known;
 use frame::Hd1080x50i;
 use frame::LIMIT;

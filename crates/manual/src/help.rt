@@ -1,10 +1,10 @@
 // What the command says of itself: an overview, a page for each command, the numbers of refusals in words, the version.
 ghost use Rattle.io.specs.Counts.{Counts};
-use crate::ending;
-use crate::ending::DONE;
-use crate::ending::FAILED;
 use crate::names;
 use crate::names::Command;
+use console::ending;
+use console::ending::DONE;
+use console::ending::FAILED;
 use libc::STDERR_FILENO;
 
 // Room for the longest page.

@@ -1,10 +1,10 @@
--- `command::arguments::number_of` meets its contract: no sum wraps.
+-- `console::arguments::number_of` meets its contract: no sum wraps.
 -- Assumes nothing.
 use Prim.Native.Nat.{_-_, _<_}
 use lib.ListN.{length}
 use borrow.Author.Needs.{needs}
-use Rattle.command.proofs.arguments.number_of.Statement.{statement}
-use Rattle.command.proofs.arguments.number_of.Tie as tie
+use Rattle.console.proofs.arguments.number_of.Statement.{statement}
+use Rattle.console.proofs.arguments.number_of.Tie as tie
 
 abbrev Inv-loop : tie.InvT-loop
 Inv-loop digits n₀ i₀ n i = n < 1000000000000000000

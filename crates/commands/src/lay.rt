@@ -1,10 +1,10 @@
 // vanc lay PACKING SHEET AREA: lays the packets of a sheet file into the area that is in a file. Both are read whole, the area is replaced whole, and
 // only when the sheet is laid.
-use crate::arguments;
-use crate::arguments::NOT_A_NUMBER;
-use crate::ending;
-use crate::ending::DONE;
-use crate::ending::FAILED;
+use console::arguments;
+use console::arguments::NOT_A_NUMBER;
+use console::ending;
+use console::ending::DONE;
+use console::ending::FAILED;
 use file_status::Known;
 use frame::Hd1080x50i;
 use rules::Laid;

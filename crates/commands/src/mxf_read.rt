@@ -1,10 +1,10 @@
 // vanc mxf-read SYSTEM FI ELEMENT SHEET: reads the packets of the ANC element (ST 436-1) that is in a file to a sheet file. The sheet file is made or
 // replaced whole, and only when the element is read.
-use crate::arguments;
-use crate::arguments::NOT_A_NUMBER;
-use crate::ending;
-use crate::ending::DONE;
-use crate::ending::FAILED;
+use console::arguments;
+use console::arguments::NOT_A_NUMBER;
+use console::ending;
+use console::ending::DONE;
+use console::ending::FAILED;
 use file_status::Known;
 use mxf::ElementRead;
 use sheet_file::NUMBERS;

@@ -1,8 +1,8 @@
 // vanc list [SHEET]: what document 01's lister prints, of a sheet file or of standard input.
-use crate::arguments;
-use crate::ending;
-use crate::ending::DONE;
-use crate::ending::FAILED;
+use console::arguments;
+use console::ending;
+use console::ending::DONE;
+use console::ending::FAILED;
 use sheet_file::NUMBERS;
 
 fn list(name: &[u8], file: &[u8]) -> i32 {

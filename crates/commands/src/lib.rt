@@ -1,0 +1,63 @@
+// The command `vanc`: its first argument names what it does, and each of those commands is a file of its own. It ends with status 0, done; 1, refused
+// by the rules; 2, called wrongly, or a file or a stream that could not be read or written. What it prints and what it does with files is tested, and
+// not proved; that it lays, reads and writes what the rules say, the contracts of `file_codec` promise.
+mod lay;
+mod list;
+mod mxf_read;
+mod mxf_write;
+mod read;
+
+use console::ending;
+use console::ending::FAILED;
+use manual::help;
+use manual::names;
+use manual::names::Command;
+
+// `vanc NAME --help`: the one argument behind a command's name.
+fn asks_for_help(count: usize) -> bool {
+    if count != 3 {
+        return false;
+    }
+    let mut word = io::buffer();
+    let n = os::arg(2, &mut word);
+    text::is(&word[..n], b"--help")
+}
+
+fn go(c: Command, name: &[u8], count: usize) -> i32 {
+    if !names::takes(c, count) {
+        return help::say_usage(c);
+    }
+    match c {
+        Command::List => list::run(count),
+        Command::Lay => lay::run(),
+        Command::Read => read::run(),
+        Command::MxfWrite => mxf_write::run(),
+        Command::MxfRead => mxf_read::run(),
+        Command::Help => help::run(count),
+        Command::HelpOption => help::overview(),
+        Command::Version => help::version(),
+        Command::Unknown => names::say_unknown(name),
+    }
+}
+
+fn start(name: &[u8], count: usize) -> i32 {
+    let c = names::named(name);
+    if asks_for_help(count) {
+        return help::of(c, name);
+    }
+    go(c, name, count)
+}
+
+pub fn run() -> i32 {
+    if !files::hold_streams() {
+        ending::say_unchanged();
+        return FAILED;
+    }
+    let count = os::arg_count();
+    if count < 2 {
+        return help::say_overview();
+    }
+    let mut name = io::buffer();
+    let n = os::arg(1, &mut name);
+    start(&name[..n], count)
+}
