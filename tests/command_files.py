@@ -148,6 +148,7 @@ def refused_sheets():
         refused(5, 0, f"many_{system}", sheet_of(system, list(packets_of(system, [0] * 513, lambda k: 0))))
         refused(6, 2, f"line_{system}", sheet(system, locations[:1] + [(750, 3), (LAST[system] + 1, 2)], [w for words in each for w in words]))
     refused(6, 1, "flags", sheet(1, [locations[0], (561, 4), locations[2]], [w for words in each for w in words]))
+    refused(6, 2, "zero", sheet(1, locations[:2] + [(0, 4)], [w for words in each for w in words]))
     refused(6, 0, "both", sheet(1, [(65535, 65535), (65535, 4), locations[2]], [w for words in each for w in words]))
     refused(7, 2, "few", sheet(1, locations, (each[0] + each[1] + each[2])[:-2]))
     for number in (7, 8, 9, 10):
