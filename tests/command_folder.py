@@ -4,7 +4,7 @@ and answers each with one line, which is empty where all is as it should be.
     keep                              what is here now is what the others ask for
     same                              all is as kept: kinds, modes, owners, bytes, where links point; none is another file with the same bytes
     untouched                         the same, and nothing was made or removed in a folder meanwhile
-    became FILE RIGHT [MODE [OWNER]]  FILE has RIGHT's bytes, and the mode and owner that it had (a new one: gets); the rest is as kept; it is put back
+    became FILE RIGHT [MODE [OWNER]]  FILE has RIGHT's bytes, and its old mode and owner, or those of new files; the rest is as kept; it is put back
     beside FOLDER RIGHT MODE [SIZE]   the same but for one file .vanc-?????? in FOLDER with the first SIZE bytes of RIGHT (or some); it is removed
     killed FILE RIGHT MODE            "old" or "new": FILE is as kept, or has RIGHT's bytes and MODE; files .vanc-?????? may be there, and are removed
     socket FILE                       makes a socket"""
