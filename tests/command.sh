@@ -463,11 +463,16 @@ for file in "$part" twelve.areas eleven.area tens.areas; do
   cp frame.area "$file"
 done
 wide 4093 tens.areas
-ln -s "$wide" near
-wide 4094 tens.areas
-ln -s "$wide" far
-wide 4088 tens.areas
-ln -s ".$wide" folder/joined
+long_links=true
+# Not every file system has links as long as that.
+if ln -s "$wide" near 2>/dev/null; then
+  wide 4094 tens.areas
+  ln -s "$wide" far
+  wide 4088 tens.areas
+  ln -s ".$wide" folder/joined
+else
+  long_links=false
+fi
 keep
 expect 0 "$listing" "" list "${part:9}cue.sheet"
 wide 4095 cue.sheet
@@ -488,7 +493,7 @@ for writer in "${writers[@]}"; do
     wide $file
     works $writer "$wide" "${file#* }"
   done
-  works $writer near tens.areas
+  ! $long_links || works $writer near tens.areas
   wide 4096 frame.area
   for name in "1$part" "folder/1$part" "$wide"; do
     stops "$name: $large" $writer frame.area "$name"
@@ -504,6 +509,7 @@ for writer in "${writers[@]}"; do
     or="$wide: not written: $large" stops "$wide: $large" $writer "$wide"
   done
   for name in far folder/joined; do
+    $long_links || continue
     or="$name: not written: $large" stops "$name: $large" $writer $name
   done
   [ $writer != lay ] || continue
@@ -1117,10 +1123,11 @@ for start in closed_error full_error broken_error closed_input_error; do
       works $writer $name $target
       inner=$start start=unprinted expect 2 "" "" "${job[@]}"
       sees became $target "$right"
-      fault="rename 1,unlink 1" expect 2 "" "" "${job[@]}"
-      sees beside "$(dirname $target)" "$right" 644 "$(stat -c %s "$right")"
-      fault="write 1" expect 2 "" "" "${job[@]}"
-      sees same
+      for fault in "fsync 1,unlink 1" "rename 1,unlink 1"; do
+        expect 2 "" "" "${job[@]}"
+        sees beside "$(dirname $target)" "$right" any "$(stat -c %s "$right")"
+      done
+      fault=
     done
     stops "" $writer frame.area nothing.file
     stops "" $writer folder
@@ -1407,8 +1414,20 @@ fresh_jobs
 crowd lay frame.area
 crowd read new.file
 
+# Who reads while another lays sees one frame or the other.
+cp laid_1.area frame.area
+(for n in {1..100}; do "${quick[@]}" lay $((n % 2 + 1)) cue.sheet frame.area || exit 1; done) >"$work/laying" 2>&1 &
+for _ in {1..100}; do
+  runs read 1 frame.area new.file
+  [[ $status$out == 0"read packing "[12]" packets 3 numbers 40"$'\n' ]] || fail "status $status, '$out'; it said '$err'"
+  cmp -s cue.sheet new.file || fail "another sheet is read"
+done
+wait $! || fail "laying at the same time: $(sort "$work/laying" | uniq -c)"
+done_tests=$((done_tests + 100))
+
 # ---- scripts
 
+fresh_jobs
 cp "$made/10_line.sheet" bad.sheet
 keep
 mkdir "$work/bin"

@@ -5,7 +5,8 @@ and answers each with one line, which is empty where all is as it should be.
     same                              all is as kept: kinds, modes, owners, bytes, where links point; none is another file with the same bytes
     untouched                         the same, and nothing was made or removed in a folder meanwhile
     became FILE RIGHT [MODE [OWNER]]  FILE has RIGHT's bytes, and its old mode and owner, or those of new files; the rest is as kept; it is put back
-    beside FOLDER RIGHT MODE [SIZE]   the same but for one file .vanc-?????? in FOLDER with the first SIZE bytes of RIGHT (or some); it is removed
+    beside FOLDER RIGHT MODE [SIZE]   the same, but for one file .vanc-?????? in FOLDER, which is removed: it has MODE (or "any"), and the first SIZE
+                                      bytes of RIGHT (or some)
     killed FILE RIGHT MODE            "old" or "new": FILE is as kept, or has RIGHT's bytes and MODE; files .vanc-?????? may be there, and are removed
     socket FILE                       makes a socket"""
 import os
@@ -109,7 +110,7 @@ def beside(folder, right, mode, size=None):
     with open(right, "rb") as f:
         data = f.read()
     wrong = list(differences(kept, found))
-    if it["mode"] != mode:
+    if mode not in ("any", it["mode"]):
         wrong.append(f"the file beside has the mode {it['mode']}, not {mode}")
     if it["bytes"] != data[: len(it["bytes"])] or size and len(it["bytes"]) != int(size):
         wrong.append(f"the file beside has {len(it['bytes'])} bytes, not the first {size or ''} of {right}")
