@@ -1,0 +1,201 @@
+"""command_files.py FOLDER: the files that tests/command.sh works on, at the limits of what the command takes, and what has to come out of each.
+
+Y is the system, K the packing. Sheets: full_Y (65,536 bytes, of 512 packets, with the longest text that is listed), less_Y and over_Y (one
+number fewer, one more), fill_K_Y (512 packets that fill the frame), spill_K_Y (one byte or one pack more). Areas: noise_Y, and fill_K_Y, which is
+noise_Y with fill_K_Y.sheet laid. Elements: full_Y, less_Y and over_Y of these sheets; long_Y (262,144 bytes, the packets of full_Y and padding),
+long_less_Y and long_over_Y (a byte of padding less, more), limit_Y (513 packets). other_3.sheet is full_3 with the other FI.
+Texts: full_Y and less_Y, their listings.
+
+Of the samples: laid_K.area, frame.area with cue.sheet laid; film.anc, film.sheet as an element with FI 0; film_0.sheet, that one read.
+
+Refused, N being the number: N_WORD.sheet, and N_K.area, which is not read. WORD says where the packet at fault stands: the location that it has
+names a line (line), or none (none), or it has no location (beyond)."""
+import os
+import random
+import sys
+
+from reference import LAST, area_size, lay, listing, pack, packet, packs_5, read, sheet, sheet_tests, spread, user_bytes
+
+folder = sys.argv[1]
+samples = os.path.join(os.path.dirname(os.path.abspath(__file__)), "..", "samples")
+chance = random.Random(436)
+
+
+def save(name, data):
+    with open(os.path.join(folder, name), "wb") as f:
+        f.write(bytes(data))
+
+
+def load(name):
+    with open(os.path.join(samples, name), "rb") as f:
+        return f.read()
+
+
+def load_sheet(name):
+    data = load(name)
+    return [data[i] << 8 | data[i + 1] for i in range(0, len(data), 2)]
+
+
+def packets_of(system, sizes, flags, first_line=1):
+    """A packet for each DC: (line, flags, words), on lines that have as many digits as can be, or from none on."""
+    last = LAST[system]
+    for k, dc in enumerate(sizes):
+        line = last - k % 100 if first_line else k % (last + 1)
+        yield line, flags(k), packet(k % 256, 255 - k % 256, chance.randbytes(dc))
+
+
+def sheet_of(system, packets):
+    return sheet(system, [(line, flags) for line, flags, _ in packets], [w for _, _, words in packets for w in words])
+
+
+def two(n):
+    return n.to_bytes(2, "big")
+
+
+def element(system, packets, padding=0):
+    """ST 436-1, tables 5 to 7, with padding behind the last packet."""
+    value = two(len(packets))
+    for k, (line, flags, words) in enumerate(packets):
+        samples = bytes(w & 0xFF for w in words[3:-1])
+        behind = padding if k + 1 == len(packets) else 0
+        value += two(line) + bytes([4 if system == 3 else 1, 4 if flags & 2 else 5]) + two(len(samples))
+        value += (len(samples) + behind).to_bytes(4, "big") + (1).to_bytes(4, "big") + samples + chance.randbytes(behind)
+    key = bytes.fromhex("060E2B34 01020101 0D010301 17010201")
+    return key + b"\x83" + len(value).to_bytes(3, "big") + value
+
+
+def full(system):
+    """255 packets with a DC of three digits is what 65,536 bytes leave room for."""
+    for name, first in (("full", 186), ("less", 185), ("over", 187)):
+        sizes = [first] + [100] * 254 + [10] * 257
+        packets = list(packets_of(system, sizes, lambda k: k % 2 * 2))
+        s = sheet_of(system, packets)
+        assert len(s) == 32582 + first
+        save(f"{name}_{system}.sheet", pack(s))
+        save(f"{name}_{system}.anc", element(system, packets))
+        if name == "full":
+            room = 262144 - len(element(system, packets))
+            for long, padding in (("long", room), ("long_less", room - 1), ("long_over", room + 1)):
+                save(f"{long}_{system}.anc", element(system, packets, padding))
+        if name != "over":
+            save(f"{name}_{system}.text", listing(pack(s)).encode())
+        if system == 3 and name == "full":
+            save("other_3.sheet", pack(sheet_of(3, [(line, flags + 1, words) for line, flags, words in packets])))
+
+
+def fill(system, packing):
+    if packing == 1:
+        more = {1: 24, 2: 336, 3: 24}[system]
+        sizes = [8] * more + [4] * (512 - more)
+    else:
+        user = {1: 7440, 2: 8928, 3: 7440}[system] - 7 * 512
+        sizes = [user // 512 + (k < user % 512) for k in range(512)]
+    packets = list(packets_of(system, sizes, lambda k: k % 4, first_line=0))
+    s = sheet_of(system, packets)
+    save(f"fill_{packing}_{system}.sheet", pack(s))
+    area = bytearray(noise[system])
+    number, _, packs, string = lay(packing, s, area)
+    assert (number, packs) == (0, [{1: 1560, 2: 1872, 3: 1560}, {1: 120, 2: 144, 3: 120}][packing - 1][system])
+    save(f"fill_{packing}_{system}.area", area)
+    save(f"fill_{packing}_{system}.laid", f"laid packs {packs} bytes {string}\n".encode())
+    save(f"fill_{packing}_{system}.read", f"read packing {packing} packets 512 numbers {len(s)}\n".encode())
+    sizes[-1] += 1
+    spilled = sheet_of(system, list(packets_of(system, sizes, lambda k: 0)))
+    assert lay(packing, spilled, area)[0] == 12
+    save(f"spill_{packing}_{system}.sheet", pack(spilled))
+
+
+def of_samples():
+    cue = load_sheet("cue.sheet")
+    for packing in (1, 2):
+        area = bytearray(load("frame.area"))
+        assert lay(packing, cue, area)[0] == 0
+        save(f"laid_{packing}.area", area)
+    film = [p for p in sheet_tests(load_sheet("film.sheet"))[2] if p[1] & 1 == 0]
+    save("film.anc", element(3, film))
+    save("film_0.sheet", pack(sheet_of(3, film)))
+
+
+def refused_sheets():
+    cue = load_sheet("cue.sheet")
+    _, _, packets = sheet_tests(cue)
+    locations, each = [(line, flags) for line, flags, _ in packets], [words for _, _, words in packets]
+
+    def refused(number, place, name, s):
+        assert sheet_tests(s)[:2] == (number, place), (name, sheet_tests(s)[:2])
+        save(f"{number}_{name}.sheet", pack(s))
+
+    def damaged(number, words):
+        """A packet as the number says. With fewer than 7 words, or cut off, it is the last."""
+        changed = list(words)
+        if number == 7:
+            changed[1] = 0
+        elif number == 8:
+            changed[4] ^= 0x100
+        elif number == 9:
+            changed.pop()
+        else:
+            changed[-1] ^= 1
+        return changed
+
+    refused(2, 0, "short", cue[:-1])
+    refused(2, 0, "long", cue + [0])
+    refused(2, 0, "first", [2] + cue[1:])
+    refused(2, 0, "three", cue[:3])
+    for system in (0, 4, 65535):
+        refused(3, 0, f"system_{system}", [1, system] + cue[2:])
+    for system in LAST:
+        refused(5, 0, f"many_{system}", sheet_of(system, list(packets_of(system, [0] * 513, lambda k: 0))))
+        refused(6, 2, f"line_{system}", sheet(system, locations[:1] + [(750, 3), (LAST[system] + 1, 2)], [w for words in each for w in words]))
+    refused(6, 1, "flags", sheet(1, [locations[0], (561, 4), locations[2]], [w for words in each for w in words]))
+    refused(6, 2, "zero", sheet(1, locations[:2] + [(0, 4)], [w for words in each for w in words]))
+    refused(6, 0, "both", sheet(1, [(65535, 65535), (65535, 4), locations[2]], [w for words in each for w in words]))
+    refused(7, 2, "few", sheet(1, locations, (each[0] + each[1] + each[2])[:-2]))
+    for number in (7, 8, 9, 10):
+        refused(number, 0, "line", sheet(1, locations, damaged(number, each[0]) if number == 9 else damaged(number, each[0]) + each[1] + each[2]))
+        refused(number, 2, "none", sheet(1, locations, each[0] + each[1] + damaged(number, each[2] if number != 9 else each[1])))
+        refused(number, 3, "beyond", sheet(1, locations, each[0] + each[1] + each[2] + damaged(number, each[0])))
+        refused(number, 0, "alone", sheet(1, [], damaged(number, each[0])))
+    refused(11, 0, "more", sheet(1, locations, each[0] + each[1]))
+    refused(11, 0, "fewer", sheet(1, locations[:2], each[0] + each[1] + each[2]))
+    refused(11, 0, "nothing", sheet(1, locations[:1], []))
+
+
+def refused_areas():
+    _, _, packets = sheet_tests(load_sheet("cue.sheet"))
+
+    def refused(number, place, packing, user):
+        area = bytearray(noise[1])
+        spread(1, user, area)
+        assert read(1, area, [0] * 32768)[:2] == (number, place), (number, packing)
+        save(f"{number}_{packing}.area", area)
+
+    def changed(user, at, byte):
+        return user[:at] + [byte] + user[at + 1 :]
+
+    packs = [b for p in packs_5(packets) for b in p]
+    long, _ = user_bytes(2, 1, packets)
+    # Packet 1 begins at the fourth pack, and in the string at byte 9; its third header byte is followed by DID, SDID, DC and its user bytes.
+    refused(13, 0, 1, changed(packs, 15, 0xE2 + 2))
+    refused(14, 1, 1, changed(packs, 23, 200))
+    refused(15, 1, 1, changed(packs, 24, packs[24] ^ 1))
+    refused(16, 1, 1, changed(changed(packs, 17, 0x80), 18, packs[18] & 0xF0))
+    refused(13, 0, 2, changed(long, 75, 0))
+    refused(14, 1, 2, changed(long, 3 + 9 + 5, 200))
+    refused(15, 1, 2, changed(long, 3 + 9 + 6, long[3 + 9 + 6] ^ 1))
+    refused(16, 1, 2, changed(changed(long, 3 + 9, 0xFF), 3 + 10, packs[18] | 0x0F))
+    many = list(packets_of(1, [0] * 513, lambda k: 0))
+    refused(5, 512, 1, [b for p in packs_5(many) for b in p])
+    refused(5, 512, 2, user_bytes(2, 1, many)[0])
+
+
+noise = {system: chance.randbytes(area_size(system)) for system in LAST}
+for system in LAST:
+    save(f"noise_{system}.area", noise[system])
+    full(system)
+    fill(system, 1)
+    fill(system, 2)
+    save(f"limit_{system}.anc", element(system, list(packets_of(system, [0] * 513, lambda k: 0))))
+of_samples()
+refused_sheets()
+refused_areas()
