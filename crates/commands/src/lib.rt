@@ -7,6 +7,7 @@ mod mxf_read;
 mod mxf_write;
 mod read;
 
+use console::arguments;
 use console::ending;
 use console::ending::FAILED;
 use manual::help;
@@ -19,7 +20,7 @@ fn asks_for_help(count: usize) -> bool {
         return false;
     }
     let mut word = io::buffer();
-    let n = os::arg(2, &mut word);
+    let n = arguments::word(2, &mut word);
     text::is(&word[..n], b"--help")
 }
 
@@ -58,6 +59,6 @@ pub fn run() -> i32 {
         return help::say_overview();
     }
     let mut name = io::buffer();
-    let n = os::arg(1, &mut name);
+    let n = arguments::word(1, &mut name);
     start(&name[..n], count)
 }

@@ -57,6 +57,21 @@ fn system_of(word: &[u8]) -> u64 {
     number_of(word)
 }
 
+// How much of a word is quoted that is longer than a buffer.
+const QUOTED: usize = 64;
+
+// Argument i, at the start of a buffer: how long it is. One that is longer than the buffer is its start and two dots, which no command, number or
+// system is.
+pub fn word(i: usize, buf: &mut [u8]) -> usize
+    ensures { λ r. ⌜ Counts r (now (buf .exit)) ⌝ }
+{
+    let n = os::arg(i, buf);
+    if n == 0 && os::errno() == libc::ENAMETOOLONG {
+        return text::put_text(buf, QUOTED, b"..");
+    }
+    n
+}
+
 // What is wrong with an argument, which is quoted.
 fn say_wrong(name: &[u8], word: &[u8], why: &[u8]) {
     let mut text = [0u8; 4352];
@@ -68,24 +83,24 @@ fn say_wrong(name: &[u8], word: &[u8], why: &[u8]) {
 
 // The number that is argument i; `NOT_A_NUMBER` where it is none, which is then said.
 pub fn number(i: usize, name: &[u8]) -> u64 {
-    let mut word = io::buffer();
-    let k = os::arg(i, &mut word);
-    let n = number_of(&word[..k]);
+    let mut said = io::buffer();
+    let k = word(i, &mut said);
+    let n = number_of(&said[..k]);
     if n == NOT_A_NUMBER {
-        say_wrong(name, &word[..k], b"' is no number");
+        say_wrong(name, &said[..k], b"' is no number");
     }
     n
 }
 
 // The system that is argument i; `NOT_A_NUMBER` where it is none, which is then said.
 pub fn system(i: usize) -> u64 {
-    let mut word = io::buffer();
-    let k = os::arg(i, &mut word);
-    let n = system_of(&word[..k]);
+    let mut said = io::buffer();
+    let k = word(i, &mut said);
+    let n = system_of(&said[..k]);
     if n == NOT_A_NUMBER {
         say_wrong(
             b"SYSTEM",
-            &word[..k],
+            &said[..k],
             b"' is neither a number nor 1080/60i, 1080/50i or 720/60p",
         );
     }
@@ -94,13 +109,13 @@ pub fn system(i: usize) -> u64 {
 
 // The 0 or 1 that is argument i; `NOT_A_NUMBER` where it is neither, which is then said.
 pub fn bit(i: usize, name: &[u8]) -> u64 {
-    let mut word = io::buffer();
-    let k = os::arg(i, &mut word);
-    let n = number_of(&word[..k]);
+    let mut said = io::buffer();
+    let k = word(i, &mut said);
+    let n = number_of(&said[..k]);
     if n < 2 {
         return n;
     }
-    say_wrong(name, &word[..k], b"' is neither 0 nor 1");
+    say_wrong(name, &said[..k], b"' is neither 0 nor 1");
     NOT_A_NUMBER
 }
 

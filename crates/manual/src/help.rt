@@ -2,6 +2,7 @@
 ghost use Rattle.io.specs.Counts.{Counts};
 use crate::names;
 use crate::names::Command;
+use console::arguments;
 use console::ending;
 use console::ending::DONE;
 use console::ending::FAILED;
@@ -324,7 +325,7 @@ pub fn run(count: usize) -> i32 {
         return overview();
     }
     let mut name = io::buffer();
-    let n = os::arg(2, &mut name);
+    let n = arguments::word(2, &mut name);
     if text::is(&name[..n], b"refusals") {
         return table();
     }
