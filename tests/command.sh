@@ -237,6 +237,12 @@ declare -A usage=(
 
 fresh_jobs
 
+# quote WORD: as the command quotes it, in `quoted`: of a word of more than 4,096 bytes the first 64.
+quote() {
+  quoted="'$1'"
+  [ ${#1} -le 4096 ] || quoted="'${1:0:64}..'"
+}
+
 # prints ARGUMENTS..: the command ends well and prints some lines, which are in `printed`, without the last line end.
 prints() {
   runs "$@"
@@ -260,16 +266,20 @@ for name in list "${writers[@]}"; do
 done
 expect 0 "$version" "" --version
 for name in "" x LAY la lay2 " lay" "lay " layer lister reader mxf_write mxf-Read -h -help --hel --helpx --Version -- - / "'" '%s%n%d' "ä b" \
-  "$(printf '%065d' 1)" "$(printf '%04097d' 1)" "$(printf '%05000d' 1)"; do
-  wrong "'$name' $unknown" "$name"
-  wrong "'$name' $unknown" "$name" 1 cue.sheet frame.area
-  wrong "'$name' $unknown" "$name" --help
-  wrong "'$name' $unknown" help "$name"
+  "$(printf '%065d' 1)" "$(printf '%04096d' 1)" "$(printf '%04097d' 1)" "$(printf '%05000d' 1)"; do
+  quote "$name"
+  wrong "$quoted $unknown" "$name"
+  wrong "$quoted $unknown" "$name" 1 cue.sheet frame.area
+  wrong "$quoted $unknown" "$name" --help
+  wrong "$quoted $unknown" help "$name"
 done
 wrong "'refusals' $unknown" refusals
-for name in help --help --version Refusals refusal; do
+for name in Refusals refusal; do
   wrong "'$name' $unknown" help $name
 done
+expect 0 "$overview" "" help help
+expect 0 "$overview" "" help --help
+wrong "usage: vanc --version" help --version
 wrong "usage: vanc help [NAME]" help lay read
 wrong "usage: vanc help [NAME]" help refusals 1
 wrong "usage: vanc help [NAME]" help "" ""
@@ -356,13 +366,14 @@ nines=999999999999999999
 mkfifo silent
 keep
 for none in "" x 1x x1 -1 +1 -0 " 1" "1 " $'1\t' 1/ 1: / : 0x1 0X1 1h 1.0 1,0 1e0 ١ '%d' "'" 1000000000000000000 "1$nines" 18446744073709551615 \
-  18446744073709551617 0000000000000000001 "$(printf '%065d' 1)" "$(printf '%04096d' 1)" "$(printf '%04097d' 1)" "$(printf '%05000d' 1)" \
+  18446744073709551617 "$(printf '%04097d' 1)" "$(printf '%05000d' 1)" \
   1080/60I 1080/60 1080/60ix "1080/60i " " 1080/60i" 01080/60i 1080/50 1080/50I 1080/60p 720/60 720/60P 720/60i 720/60pp 720p 1080-60i; do
-  wrong "PACKING: '$none' is no number" lay "$none" cue.sheet frame.area
-  wrong "SYSTEM: '$none' $neither" read "$none" laid_1.area back.sheet
-  wrong "SYSTEM: '$none' $neither" mxf-read "$none" 0 film.anc back.sheet
-  wrong "FI: '$none' is neither 0 nor 1" mxf-write "$none" film.sheet new.anc
-  wrong "FI: '$none' is neither 0 nor 1" mxf-read 3 "$none" film.anc back.sheet
+  quote "$none"
+  wrong "PACKING: $quoted is no number" lay "$none" cue.sheet frame.area
+  wrong "SYSTEM: $quoted $neither" read "$none" laid_1.area back.sheet
+  wrong "SYSTEM: $quoted $neither" mxf-read "$none" 0 film.anc back.sheet
+  wrong "FI: $quoted is neither 0 nor 1" mxf-write "$none" film.sheet new.anc
+  wrong "FI: $quoted is neither 0 nor 1" mxf-read 3 "$none" film.anc back.sheet
 done
 for system in 1080/60i 1080/50i 720/60p; do
   wrong "PACKING: '$system' is no number" lay $system cue.sheet frame.area
@@ -379,7 +390,7 @@ for number in 2 3 10 11 256 257 65536 65537 4294967296 $nines; do
   wrong "FI: '$number' is neither 0 nor 1" mxf-write $number film.sheet new.anc
   wrong "FI: '$number' is neither 0 nor 1" mxf-read 3 $number film.anc back.sheet
 done
-for one in 1 01 "$(printf '%018d' 1)"; do
+for one in 1 01 "$(printf '%018d' 1)" "$(printf '%04096d' 1)"; do
   gives frame.area laid_1.area "laid packs 10 bytes 30" lay $one cue.sheet frame.area
   gives cue.sheet "$samples/cue.sheet" "read packing 1 packets 3 numbers 40" read $one laid_1.area cue.sheet
   refused 18 3 "film.sheet: packet 3 (no line)" mxf-write $one film.sheet new.anc
@@ -477,12 +488,13 @@ keep
 expect 0 "$listing" "" list "${part:9}cue.sheet"
 wide 4095 cue.sheet
 expect 0 "$listing" "" list "$wide"
-wide 4096 cue.sheet
-for name in "1$part" "folder/1$part" "$wide"; do
+for name in "1$part" "folder/1$part"; do
   wrong "$name: $large" list "$name"
 done
-wide 4097 cue.sheet
-wrong "SHEET: $large" list "$wide"
+for size in 4096 4097; do
+  wide $size cue.sheet
+  wrong "SHEET: $large" list "$wide"
+done
 for writer in "${writers[@]}"; do
   job $writer x
   from=$input
@@ -494,12 +506,11 @@ for writer in "${writers[@]}"; do
     works $writer "$wide" "${file#* }"
   done
   ! $long_links || works $writer near tens.areas
-  wide 4096 frame.area
-  for name in "1$part" "folder/1$part" "$wide"; do
+  for name in "1$part" "folder/1$part"; do
     stops "$name: $large" $writer frame.area "$name"
     stops "$name: $large" $writer "$name"
   done
-  for size in 4097 5000; do
+  for size in 4096 4097 5000; do
     wide $size x
     stops "${called[0]}: $large" $writer frame.area "$wide"
     stops "${called[1]}: $large" $writer "$wide"

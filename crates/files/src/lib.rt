@@ -201,8 +201,8 @@ fn follow_link(path: &mut [u8], n: usize) -> usize
     text::put_text(path, f, &link[..k])
 }
 
-// The most links that the system follows.
-const LINKS: usize = 40;
+// How often a link is looked for: the system follows 40, and the last look finds none.
+const LOOKS: usize = 41;
 
 // Follows links until none is left: how long the path of the file is, at the start of the buffer.
 fn follow_links(path: &mut [u8], n: usize) -> usize
@@ -210,7 +210,7 @@ fn follow_links(path: &mut [u8], n: usize) -> usize
     ensures { λ r. ⌜ Counts r (now (path .exit)) ⌝ }
 {
     let mut bytes = n;
-    let mut left = LINKS;
+    let mut left = LOOKS;
     while 0 < left {
         let m = follow_link(path, bytes);
         if m == 0 {
