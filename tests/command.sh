@@ -549,6 +549,7 @@ for writer in "${writers[@]}"; do
   for kind in "${!kinds[@]}"; do
     stops "$kind: ${kinds[$kind]}; $regular" $writer $kind silent
   done
+  stops "frame.area/x: Not a directory" $writer frame.area/x silent
   start=vanc
   stops "folder: a folder; $regular" $writer folder nothing.file
   stops "folder: a folder; $regular" $writer folder folder
