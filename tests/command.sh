@@ -26,8 +26,9 @@ need_command
 quietly rt check lister
 cc_for -std=c99 -Wall -Wextra -pedantic -Werror -O1 -shared -fPIC tests/failing.c -o "$work/failing.so"
 python3 tests/command_files.py "$made"
+# The x86-64 executable: on another processor $command may be a script that runs it.
 program=$work/vanc
-cp "$top/$command" "$program"
+cp "$top/${executable:-$command}" "$program"
 cd "$work/here"
 done_tests=0
 
