@@ -26,8 +26,9 @@ need_command
 quietly rt check lister
 cc_for -std=c99 -Wall -Wextra -pedantic -Werror -O1 -shared -fPIC tests/failing.c -o "$work/failing.so"
 python3 tests/command_files.py "$made"
+# The x86-64 executable: on another processor $command may be a script that runs it.
 program=$work/vanc
-cp "$top/$command" "$program"
+cp "$top/${executable:-$command}" "$program"
 cd "$work/here"
 done_tests=0
 
@@ -48,11 +49,13 @@ fault= start=vanc front='vanc: ' or= second= this=
 
 # ---- how a run is made and looked at
 
+# fail WORDS: the run that failed, and why, and no further.
 fail() {
   echo "command: $this: $1" >&2
   exit 1
 }
 
+# started PROGRAM ARGUMENTS..: an x86-64 program, with the calls that fail.
 started() {
   if [ -z "$fault" ]; then
     "${starter[@]}" "$@"
@@ -63,8 +66,8 @@ started() {
   fi
 }
 
+# The command, and the lister.
 vanc() { started "$program" "$@"; }
-
 lister() { started "$top/target/bin/lister"; }
 
 # The command, with ten seconds to end: it could wait for a FIFO.
@@ -179,6 +182,7 @@ stops() {
   wrong "$1" "${job[@]}"
 }
 
+# poke FILE PLACE BYTE: that byte of FILE, as printf takes it.
 poke() { printf "$3" | dd of="$1" bs=1 seek="$2" conv=notrunc status=none; }
 
 # length FILE N: FILE cut, or lengthened by zeros, to N bytes.
@@ -551,6 +555,8 @@ done
 kinds+=([.]="a folder" [folder/]="a folder" [/]="a folder" [folder/..]="a folder")
 $root || kinds+=([/dev/null]="a device" [/dev/zero]="a device")
 keep
+
+# The command, with a pipe for standard output.
 piped() {
   vanc "$@" | cat
   return "${PIPESTATUS[0]}"
@@ -560,6 +566,7 @@ for writer in "${writers[@]}"; do
   for kind in "${!kinds[@]}"; do
     stops "$kind: ${kinds[$kind]}; $regular" $writer $kind silent
   done
+  stops "frame.area/x: Not a directory" $writer frame.area/x silent
   start=vanc
   stops "folder: a folder; $regular" $writer folder nothing.file
   stops "folder: a folder; $regular" $writer folder folder
@@ -668,7 +675,9 @@ ln -s folder/frame.area link
 owners=("$(id -u):$(id -g)")
 ! $root || owners+=(65534:65534 0:65534 65534:0 12345:54321)
 for owner in "${owners[@]}"; do
-  for mode in 600 644 640 755 444 4755 2755 6755 1644 7777 664 400 000; do
+  modes=(600 640 4755 6755)
+  [ "$owner" != "${owners[0]}" ] || modes+=(644 755 444 2755 1644 7777 664 400 000)
+  for mode in "${modes[@]}"; do
     chown "$owner" frame.area folder/frame.area
     chmod $mode frame.area folder/frame.area
     keep
@@ -718,6 +727,7 @@ if $root; then
   need setpriv util-linux
   stranger() { timeout 10 setpriv --reuid=65534 --regid=65534 --clear-groups "${starter[@]}" "$program" "$@"; }
   own() { chown -h 65534:65534 "$@"; }
+  stranger --version >"$work/stdout" 2>&1 || fail "user 65534 cannot run $program; another TMPDIR is needed"
 else
   stranger() { timely "$@"; }
   own() { :; }
@@ -1000,6 +1010,7 @@ done
 
 # ---- elements of other programs (docs/OUTSIDE-ELEMENTS.md): the byte at which each is refused, then mended
 
+# long_form FILE: the length of the element in four bytes, not in one.
 long_form() { { head -c 16 "$1"; printf '\203\000\000'; tail -c +17 "$1"; } >mended && mv mended "$1"; }
 for name in gstreamer_000 gstreamer_004 ffmpeg_004; do
   element=$name.anc
@@ -1081,8 +1092,8 @@ for stream in full broken limited readable; do
   wrong "10_line.sheet: packet 0 (line 9): ${refusals[10]}"$'\n'"$why"$'\n'"$unchanged" lay 1 10_line.sheet frame.area
   wrong "14_1.area: packet 1: ${refusals[14]}"$'\n'"$why"$'\n'"$unchanged" read 1 14_1.area frame.area
   wrong "SYSTEM: ${refusals[3]}"$'\n'"$why"$'\n'"$unchanged" mxf-read 4 0 film.anc new.file
-  # What prints nothing has no use for it.
-  front='' wrong "$overview"
+  # What prints nothing has no use for it. With a limit standard error has one too.
+  [ $stream = limited ] || front='' wrong "$overview"
   wrong "PACKING: 'x' is no number" lay x cue.sheet frame.area
   wrong "nothing.sheet: $absent" list nothing.sheet
   wrong "folder: a folder; $regular" lay 1 cue.sheet folder
@@ -1125,6 +1136,7 @@ wrong "standard input: Is a directory" list <folder
 wrong "standard input: Bad file descriptor" list 0>"$work/limited"
 
 # Standard error closed, full, or read by nobody: the rest is as ever, and no message is in a file.
+# Standard output may be full besides.
 unprinted() { "$inner" "$@" >/dev/full; }
 for start in closed_error full_error broken_error closed_input_error; do
   for writer in "${writers[@]}"; do
@@ -1344,6 +1356,7 @@ done
 # ---- runs that are killed, and many at once
 
 # At each call: up to the renaming the file is the old one, then the new one; a file beside may be left.
+# What bash says of a process that was killed goes to the subshell's standard error.
 killed() (vanc "$@")
 start=killed
 for writer in "${writers[@]}"; do
@@ -1444,6 +1457,7 @@ keep
 mkdir "$work/bin"
 printf '#!/bin/sh\nexec %s "$@"\n' "${quick[*]}" >"$work/bin/vanc"
 chmod +x "$work/bin/vanc"
+# script WORDS: a script that has `vanc` among its commands.
 script() { PATH=$work/bin:$PATH bash -c "$1"; }
 start=script
 bad="bad.sheet: packet 0 (line 9): ${refusals[10]}"
