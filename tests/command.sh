@@ -875,7 +875,7 @@ for y in 1 2 3; do
   done
   gives full_$y.sheet less_$y.sheet "read packets 512 numbers 32767" mxf-read $y 0 less_$y.anc full_$y.sheet
   for sheet in back.sheet full_$y.sheet; do
-    second="over_$y.anc: $even" refused 17 0 over_$y.anc mxf-read $y 0 over_$y.anc $sheet
+    second="$sheet: $even" refused 17 0 over_$y.anc mxf-read $y 0 over_$y.anc $sheet
     refused 5 512 limit_$y.anc mxf-read $y 0 limit_$y.anc $sheet
     for element in long_over_$y.anc 262145.anc 524288.anc; do
       wrong "$element: longer than the 262144 bytes that are read" mxf-read $y 0 $element $sheet

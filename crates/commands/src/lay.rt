@@ -46,24 +46,20 @@ fn lay_and_replace(
 // One byte more than the longest sheet file and the longest area is read, so that a longer file is seen to be longer.
 fn lay_files(packing: u64, sheet: &[u8], area: &[u8]) -> i32 {
     let mut path = io::buffer();
-    let o = files::find_output(area, &mut path);
-    let p = o.bytes;
-    if p == 0 {
-        return FAILED;
-    }
-    let is = o.is;
     let mut file = [0u8; LONGEST + 1];
-    let f = files::read_file(sheet, sheet, area, is, &mut file);
-    if !f.done {
+    let j = files::begin(sheet, area, &mut path, &mut file);
+    if !j.done {
         return FAILED;
     }
+    let p = j.path;
     let mut bytes = [0u8; Hd1080x50i::AREA + 1];
     let a = files::read_file(area, &path[..p], b"", files::no_file(), &mut bytes);
     if !a.done {
         return FAILED;
     }
-    let n = f.bytes;
+    let n = j.bytes;
     let m = a.bytes;
+    let is = j.is;
     lay_and_replace(
         packing,
         sheet,
@@ -76,7 +72,7 @@ fn lay_files(packing: u64, sheet: &[u8], area: &[u8]) -> i32 {
 }
 
 pub fn run() -> i32 {
-    let packing = arguments::number(2, b"PACKING");
+    let packing = arguments::number(2, b"PACKING: ");
     let mut sheet = io::buffer();
     let n = arguments::path(3, b"SHEET", &mut sheet);
     let mut area = io::buffer();

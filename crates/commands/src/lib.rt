@@ -26,7 +26,7 @@ fn asks_for_help(count: usize) -> bool {
 
 fn go(c: Command, name: &[u8], count: usize) -> i32 {
     if !names::takes(c, count) {
-        return help::say_usage(c);
+        return names::say_usage(c);
     }
     match c {
         Command::List => list::run(count),

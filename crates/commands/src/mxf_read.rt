@@ -57,18 +57,14 @@ fn read_and_replace(
 // One byte more than the longest element file is read, so that a longer file is seen to be longer.
 fn read_files(system: u64, fi: bool, element: &[u8], sheet: &[u8]) -> i32 {
     let mut path = io::buffer();
-    let o = files::find_output(sheet, &mut path);
-    let p = o.bytes;
-    if p == 0 {
-        return FAILED;
-    }
-    let is = o.is;
     let mut bytes = [0u8; LONGEST + 1];
-    let e = files::read_file(element, element, sheet, is, &mut bytes);
-    if !e.done {
+    let j = files::begin(element, sheet, &mut path, &mut bytes);
+    if !j.done {
         return FAILED;
     }
-    let n = e.bytes;
+    let p = j.path;
+    let n = j.bytes;
+    let is = j.is;
     if LONGEST < n {
         files::say(element, b": longer than the 262144 bytes that are read");
         return FAILED;
@@ -78,7 +74,7 @@ fn read_files(system: u64, fi: bool, element: &[u8], sheet: &[u8]) -> i32 {
 
 pub fn run() -> i32 {
     let system = arguments::system(2);
-    let fi = arguments::bit(3, b"FI");
+    let fi = arguments::fi(3);
     let mut element = io::buffer();
     let n = arguments::path(4, b"ELEMENT", &mut element);
     let mut sheet = io::buffer();

@@ -45,23 +45,19 @@ fn write_and_replace(
 // One byte more than the longest sheet file is read, so that a longer file is seen to be longer.
 fn write_files(fi: bool, sheet: &[u8], element: &[u8]) -> i32 {
     let mut path = io::buffer();
-    let o = files::find_output(element, &mut path);
-    let p = o.bytes;
-    if p == 0 {
-        return FAILED;
-    }
-    let is = o.is;
     let mut file = [0u8; sheet_file::LONGEST + 1];
-    let f = files::read_file(sheet, sheet, element, is, &mut file);
-    if !f.done {
+    let j = files::begin(sheet, element, &mut path, &mut file);
+    if !j.done {
         return FAILED;
     }
-    let n = f.bytes;
+    let p = j.path;
+    let n = j.bytes;
+    let is = j.is;
     write_and_replace(fi, sheet, &file[..n], element, &path[..p], is)
 }
 
 pub fn run() -> i32 {
-    let fi = arguments::bit(2, b"FI");
+    let fi = arguments::fi(2);
     let mut sheet = io::buffer();
     let n = arguments::path(3, b"SHEET", &mut sheet);
     let mut element = io::buffer();

@@ -55,18 +55,14 @@ fn read_and_replace(
 // One byte more than the longest area is read, so that a longer file is seen to be longer.
 fn read_files(system: u64, area: &[u8], sheet: &[u8]) -> i32 {
     let mut path = io::buffer();
-    let o = files::find_output(sheet, &mut path);
-    let p = o.bytes;
-    if p == 0 {
-        return FAILED;
-    }
-    let is = o.is;
     let mut bytes = [0u8; Hd1080x50i::AREA + 1];
-    let a = files::read_file(area, area, sheet, is, &mut bytes);
-    if !a.done {
+    let j = files::begin(area, sheet, &mut path, &mut bytes);
+    if !j.done {
         return FAILED;
     }
-    let n = a.bytes;
+    let p = j.path;
+    let n = j.bytes;
+    let is = j.is;
     read_and_replace(system, area, &bytes[..n], sheet, &path[..p], is)
 }
 

@@ -72,22 +72,13 @@ pub fn word(i: usize, buf: &mut [u8]) -> usize
     n
 }
 
-// What is wrong with an argument, which is quoted.
-fn say_wrong(name: &[u8], word: &[u8], why: &[u8]) {
-    let mut text = [0u8; 4352];
-    let a = text::put_text(&mut text, 0, b": '");
-    let b = text::put_text(&mut text, a, word);
-    let n = text::put_text(&mut text, b, why);
-    files::say(name, &text[..n]);
-}
-
-// The number that is argument i; `NOT_A_NUMBER` where it is none, which is then said.
+// The number that is argument i; `NOT_A_NUMBER` where it is none, which is then said by the name, which has a colon behind it.
 pub fn number(i: usize, name: &[u8]) -> u64 {
     let mut said = io::buffer();
     let k = word(i, &mut said);
     let n = number_of(&said[..k]);
     if n == NOT_A_NUMBER {
-        say_wrong(name, &said[..k], b"' is no number");
+        files::say_quoted(name, &said[..k], b" is no number");
     }
     n
 }
@@ -98,24 +89,24 @@ pub fn system(i: usize) -> u64 {
     let k = word(i, &mut said);
     let n = system_of(&said[..k]);
     if n == NOT_A_NUMBER {
-        say_wrong(
-            b"SYSTEM",
+        files::say_quoted(
+            b"SYSTEM: ",
             &said[..k],
-            b"' is neither a number nor 1080/60i, 1080/50i or 720/60p",
+            b" is neither a number nor 1080/60i, 1080/50i or 720/60p",
         );
     }
     n
 }
 
-// The 0 or 1 that is argument i; `NOT_A_NUMBER` where it is neither, which is then said.
-pub fn bit(i: usize, name: &[u8]) -> u64 {
+// The FI, 0 or 1, that is argument i; `NOT_A_NUMBER` where it is neither, which is then said.
+pub fn fi(i: usize) -> u64 {
     let mut said = io::buffer();
     let k = word(i, &mut said);
     let n = number_of(&said[..k]);
     if n < 2 {
         return n;
     }
-    say_wrong(name, &said[..k], b"' is neither 0 nor 1");
+    files::say_quoted(b"FI: ", &said[..k], b" is neither 0 nor 1");
     NOT_A_NUMBER
 }
 

@@ -13,10 +13,10 @@ pub fn say_unchanged() {
     files::say(b"no file was changed", b"");
 }
 
-// Prints the result, and ends with a status. Where it cannot be printed that is said, and whether a file was written before: `written` is its name,
-// or empty.
-pub fn printed(result: &[u8], status: i32, written: &[u8]) -> i32 {
-    if files::print(result) {
+// Ends with a status, where the result is printed. Where it could not be printed that is said, and whether a file was written before: `written` is its
+// name, or empty.
+pub fn ended(is_printed: bool, status: i32, written: &[u8]) -> i32 {
+    if is_printed {
         return status;
     }
     files::fail(b"standard output", b"");
@@ -26,6 +26,11 @@ pub fn printed(result: &[u8], status: i32, written: &[u8]) -> i32 {
         files::say(written, b" was written");
     }
     FAILED
+}
+
+// Prints the result, and ends.
+pub fn printed(result: &[u8], status: i32, written: &[u8]) -> i32 {
+    ended(files::print(result), status, written)
 }
 
 // What is at fault, where, and what is wrong, on standard error; the refusal's line on standard output.

@@ -62,16 +62,43 @@ pub fn of_path(path: &[u8]) -> Known
     told(a, os::errno())
 }
 
-// What the link that a path leads to names, at the start of a buffer: how many bytes. None where the path leads to no link.
-pub fn link_at(path: &[u8], to: &mut [u8]) -> usize
-    ensures { λ r. ⌜ Counts r (now (to .exit)) ⌝ }
-{
-    if no_path(path) != 0 {
+// What a link names: how many bytes, and none where there is no link. `error` is 0, or an error's number where it is not known whether there is one.
+pub struct Link {
+    pub bytes: usize,
+    pub error: i32,
+}
+
+// Of a link that cannot be read: EINVAL says that the file is no link, ENOENT that nothing is there.
+fn no_link(error: i32) -> i32 {
+    if error == libc::EINVAL || error == libc::ENOENT {
         return 0;
+    }
+    error
+}
+
+// What the link that a path leads to names, at the start of a buffer.
+pub fn link_at(path: &[u8], to: &mut [u8]) -> Link
+    ensures { λ r. ⌜ Counts (r .bytes) (now (to .exit)) ⌝ }
+{
+    let error = no_path(path);
+    if error != 0 {
+        return Link {
+            bytes: 0,
+            error: error,
+        };
     }
     let name = ended(path);
     let got = libc::readlink(&name, to);
-    io::count(got, to)
+    if got < 0 {
+        return Link {
+            bytes: 0,
+            error: no_link(os::errno()),
+        };
+    }
+    Link {
+        bytes: io::count(got, to),
+        error: 0,
+    }
 }
 
 // Whether two files that are known are one.

@@ -2,6 +2,7 @@
 // standard error by the name that the operator wrote, and the caller does nothing more.
 ghost use Rattle.io.specs.Counts.{Counts};
 use file_status::Known;
+use file_status::Link;
 use file_status::REGULAR;
 use libc::PATH_MAX;
 use libc::STDERR_FILENO;
@@ -18,6 +19,16 @@ pub fn say(what: &[u8], why: &[u8]) {
     let c = text::put_text(&mut line, b, why);
     let n = text::put(&mut line, c, b'\n');
     io::write_all(STDERR_FILENO, &line[..n]);
+}
+
+// Of a word that an operator wrote, which is quoted: what it should be, and what is wrong.
+pub fn say_quoted(what: &[u8], word: &[u8], why: &[u8]) {
+    let mut line = [0u8; 4352];
+    let a = text::put_text(&mut line, 0, what);
+    let b = text::put(&mut line, a, b'\'');
+    let c = text::put_text(&mut line, b, word);
+    let n = text::put(&mut line, c, b'\'');
+    say(&line[..n], why);
 }
 
 // Of a call that failed just now: what it was about, and the system's words.
@@ -183,48 +194,62 @@ fn folder_of(path: &[u8]) -> usize
     n
 }
 
-// Follows one link: the path of what it names, in the path's place, and how long it is. 0 where the path leads to no link. A path that has no room
-// is as long as the buffer, and so longer than a path can be.
-fn follow_link(path: &mut [u8], n: usize) -> usize
+// Follows one link: the path of what it names, in the path's place, and how long it is. Of no bytes where the path leads to no link, or it is not
+// known whether it does. A path that has no room is as long as the buffer, and so longer than a path can be.
+fn follow_link(path: &mut [u8], n: usize) -> Link
     requires { ⌜ Counts n (now path) ⌝ }
-    ensures { λ r. ⌜ Counts r (now (path .exit)) ⌝ }
+    ensures { λ r. ⌜ Counts (r .bytes) (now (path .exit)) ⌝ }
 {
     let mut link = io::buffer();
-    let k = file_status::link_at(&path[..n], &mut link);
+    let l = file_status::link_at(&path[..n], &mut link);
+    let k = l.bytes;
     if k == 0 {
-        return 0;
+        return Link {
+            bytes: 0,
+            error: l.error,
+        };
     }
-    if link[0] == b'/' {
-        return text::put_text(path, 0, &link[..k]);
+    let f = if link[0] == b'/' {
+        0
+    } else {
+        folder_of(&path[..n])
+    };
+    Link {
+        bytes: text::put_text(path, f, &link[..k]),
+        error: 0,
     }
-    let f = folder_of(&path[..n]);
-    text::put_text(path, f, &link[..k])
 }
 
 // How often a link is looked for: the system follows 40, and the last look finds none.
 const LOOKS: usize = 41;
 
 // Follows links until none is left: how long the path of the file is, at the start of the buffer.
-fn follow_links(path: &mut [u8], n: usize) -> usize
+fn follow_links(path: &mut [u8], n: usize) -> Link
     requires { ⌜ Counts n (now path) ⌝ }
-    ensures { λ r. ⌜ Counts r (now (path .exit)) ⌝ }
+    ensures { λ r. ⌜ Counts (r .bytes) (now (path .exit)) ⌝ }
 {
     let mut bytes = n;
     let mut left = LOOKS;
     while 0 < left {
-        let m = follow_link(path, bytes);
-        if m == 0 {
-            return bytes;
+        let l = follow_link(path, bytes);
+        if l.bytes == 0 {
+            return Link {
+                bytes: bytes,
+                error: l.error,
+            };
         }
-        bytes = m;
+        bytes = l.bytes;
         left -= 1;
     }
-    path.len()
+    Link {
+        bytes: path.len(),
+        error: libc::ELOOP,
+    }
 }
 
 // What an output's name leads to: how long the path of its file is, at the start of the buffer that was lent for it, and what is known of the file.
 // Of no bytes where nothing may be written there.
-pub struct Output {
+struct Output {
     pub bytes: usize,
     pub is: Known,
 }
@@ -258,7 +283,7 @@ fn may_stand(name: &[u8], is: Known) -> bool {
 }
 
 // The file that an output's name leads to, through links: a regular file, or none yet. Where it is another, that is said. Nothing is opened.
-pub fn find_output(name: &[u8], path: &mut [u8]) -> Output
+fn find_output(name: &[u8], path: &mut [u8]) -> Output
     ensures { λ r. ⌜ Counts (r .bytes) (now (path .exit)) ⌝ }
 {
     let is = file_status::of_path(name);
@@ -266,12 +291,52 @@ pub fn find_output(name: &[u8], path: &mut [u8]) -> Output
         return Output { bytes: 0, is: is };
     }
     let n = text::put_text(path, 0, name);
-    let m = follow_links(path, n);
-    if PATH_MAX <= m {
+    let l = follow_links(path, n);
+    if PATH_MAX <= l.bytes {
         say(name, b": File name too long");
         return Output { bytes: 0, is: is };
     }
-    Output { bytes: m, is: is }
+    if l.error != 0 {
+        fail(name, b"");
+        return Output { bytes: 0, is: is };
+    }
+    Output {
+        bytes: l.bytes,
+        is: is,
+    }
+}
+
+// An output that was found, and the input that is read for it, each at the start of a buffer: the output's path, what is known of its file, and the
+// input's bytes.
+pub struct Job {
+    pub path: usize,
+    pub is: Known,
+    pub bytes: usize,
+    pub done: bool,
+}
+
+// Finds the output of a job, and then reads its input. Where one of them cannot be had, that is said.
+pub fn begin(input: &[u8], output: &[u8], path: &mut [u8], buf: &mut [u8]) -> Job
+    ensures { λ r. ⌜ Counts (r .path) (now (path .exit)) ⌝ }
+    ensures { λ r. ⌜ Counts (r .bytes) (now (buf .exit)) ⌝ }
+{
+    let o = find_output(output, path);
+    let is = o.is;
+    if o.bytes == 0 {
+        return Job {
+            path: 0,
+            is: is,
+            bytes: 0,
+            done: false,
+        };
+    }
+    let f = read_file(input, input, output, is, buf);
+    Job {
+        path: o.bytes,
+        is: is,
+        bytes: f.bytes,
+        done: f.done,
+    }
 }
 
 // ---- replacing
@@ -313,7 +378,7 @@ fn put_beside(path: &[u8], name: &mut [u8]) -> usize
 }
 
 // A file beside, and its descriptor, or -1.
-pub struct Beside {
+struct Beside {
     pub bytes: usize,
     pub fd: i32,
 }

@@ -1,5 +1,4 @@
 // The commands by name, and how many arguments each takes. A command that is added stands here, in `help`, and in `commands`.
-ghost use Rattle.io.specs.Counts.{Counts};
 use console::ending::FAILED;
 
 pub enum Command {
@@ -57,28 +56,24 @@ pub fn takes(c: Command, count: usize) -> bool {
     }
 }
 
-// How a command is called.
-pub fn put_call(out: &mut [u8], at: usize, c: Command) -> usize
-    ensures { λ r. ⌜ Counts r (now (out .exit)) ⌝ }
-{
+// How a command is called, for one who called it otherwise.
+pub fn say_usage(c: Command) -> i32 {
+    let how = b"usage: vanc ";
     match c {
-        Command::List => text::put_text(out, at, b"vanc list [SHEET]"),
-        Command::Lay => text::put_text(out, at, b"vanc lay PACKING SHEET AREA"),
-        Command::Read => text::put_text(out, at, b"vanc read SYSTEM AREA SHEET"),
-        Command::MxfWrite => text::put_text(out, at, b"vanc mxf-write FI SHEET ELEMENT"),
-        Command::MxfRead => text::put_text(out, at, b"vanc mxf-read SYSTEM FI ELEMENT SHEET"),
-        Command::Help => text::put_text(out, at, b"vanc help [NAME]"),
-        Command::HelpOption => text::put_text(out, at, b"vanc --help"),
-        Command::Version => text::put_text(out, at, b"vanc --version"),
-        Command::Unknown => text::put_text(out, at, b"vanc NAME .."),
+        Command::List => files::say(how, b"list [SHEET]"),
+        Command::Lay => files::say(how, b"lay PACKING SHEET AREA"),
+        Command::Read => files::say(how, b"read SYSTEM AREA SHEET"),
+        Command::MxfWrite => files::say(how, b"mxf-write FI SHEET ELEMENT"),
+        Command::MxfRead => files::say(how, b"mxf-read SYSTEM FI ELEMENT SHEET"),
+        Command::Help => files::say(how, b"help [NAME]"),
+        Command::HelpOption => files::say(how, b"--help"),
+        Command::Version => files::say(how, b"--version"),
+        Command::Unknown => files::say(how, b"NAME .."),
     }
+    FAILED
 }
 
 pub fn say_unknown(name: &[u8]) -> i32 {
-    let mut what = [0u8; 4352];
-    let a = text::put(&mut what, 0, b'\'');
-    let b = text::put_text(&mut what, a, name);
-    let n = text::put(&mut what, b, b'\'');
-    files::say(&what[..n], b" is no command; vanc --help lists them");
+    files::say_quoted(b"", name, b" is no command; vanc --help lists them");
     FAILED
 }
