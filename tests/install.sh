@@ -40,7 +40,7 @@ installs() {
   cmp man/vanc.3 "$folder/share/man/man3/vanc.3"
 }
 
-# A program that says the version of its header, and the first refusal of an area of no bytes.
+# A program that says the version of its header, and how an area of no bytes is refused.
 cat >"$work/small.c" <<'END'
 #include <stdio.h>
 #include <vanc.h>
@@ -57,7 +57,7 @@ END
 
 # works FOLDER: the command runs, also through a link, the program is built with what pkg-config says and runs, and `man` finds the pages.
 works() {
-  local folder=$1 version said
+  local folder=$1 version vanc said
   version=$(pkg-config --modversion vanc)
   ln -sfn "$folder/bin/vanc" "$work/linked"
   for vanc in "$folder/bin/vanc" "$work/linked"; do

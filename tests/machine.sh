@@ -98,12 +98,14 @@ is_made() {
 
 # unless_made FILE CRATE MAKER ..: runs MAKER where FILE is not made of CRATE as it is, since `rt staticlib` proves a crate each time it is called.
 unless_made() {
-  local file=$1 crate=$2
+  local file=$1 crate=$2 of
   shift 2
   ! is_made "$file" "$crate" || return 0
+  # Before it is made: a change while it is made is then seen next time.
+  of=$(made_of "$crate") || return
   rm -f "$file.of"
   "$@" || return
-  made_of "$crate" >"$file.of"
+  echo "$of" >"$file.of"
 }
 
 # archive_of CRATE: proves what CRATE depends on, side by side, as `rt staticlib` does not; then CRATE, to target/staticlib/libCRATE.a.
@@ -120,9 +122,9 @@ archive_of() {
 # link_command FILE: the x86-64 executable of the command.
 link_command() {
   local kit
+  need_cc || return
   archive_of command || return
   kit=$(dirname "$(dirname "$(rt doc)")")
-  need_cc || return
   mkdir -p "$(dirname "$1")"
   cc_for -O2 -Wall -Wextra -Werror crates/command/main.c target/staticlib/libcommand.a "$kit/lib/libos_c.a" -o "$1"
 }
