@@ -116,12 +116,14 @@ installs "$work/here/with two spaces" env -C "$work/here" "$PWD/install" 'plain/
 PKG_CONFIG_PATH="$work/here/with two spaces/lib/pkgconfig" works "$work/here/with two spaces"
 echo "install: into a prefix with spaces"
 
-# Below DESTDIR; vanc.pc is for the prefix alone.
+# Below DESTDIR; vanc.pc is for the prefix alone. First with a prefix that is in the test's folder too: an ./install that passes DESTDIR over fails
+# there, and does not come so far as to write to this machine's /usr/local.
+installs "$work/here/staged$work/prefix" env DESTDIR="$work/here/staged/" ./install "$work/prefix"
+[ ! -e "$work/prefix" ] || fail "with DESTDIR something was installed in the prefix itself"
 installs "$work/here/staged/usr/local" env DESTDIR="$work/here/staged" ./install
 export PKG_CONFIG_LIBDIR=$work/here/staged/usr/local/lib/pkgconfig
 [ "$(pkg-config --variable=prefix vanc)" = /usr/local ] || fail "vanc.pc below DESTDIR: its prefix is $(pkg-config --variable=prefix vanc)"
 PKG_CONFIG_SYSROOT_DIR=$work/here/staged works "$work/here/staged/usr/local"
-installs "$work/here/staged/opt/vanc" env DESTDIR="$work/here/staged/" ./install /opt/vanc
 echo "install: below DESTDIR"
 
 for wrong in '' -p --prefix=/opt; do
