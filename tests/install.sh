@@ -126,8 +126,9 @@ export PKG_CONFIG_LIBDIR=$work/here/staged/usr/local/lib/pkgconfig
 PKG_CONFIG_SYSROOT_DIR=$work/here/staged works "$work/here/staged/usr/local"
 echo "install: below DESTDIR"
 
+# From the test's folder, in which a name that is not seen to be wrong would land.
 for wrong in '' -p --prefix=/opt; do
-  changes_nothing 2 'usage: ./install [PREFIX]' ./install "$wrong"
+  changes_nothing 2 'usage: ./install [PREFIX]' env -C "$work/here" "$PWD/install" "$wrong"
 done
 changes_nothing 2 'usage: ./install [PREFIX]' ./install "$work/here/a" "$work/here/b"
 [[ $(./install --help) == 'usage: ./install [PREFIX]'* ]] || fail "--help says: $(./install --help)"
