@@ -1,5 +1,63 @@
-// The command as C calls it, in an archive of its own (main.c): all that it does is in `commands`.
+// The command `vanc`: its first argument names what it does. It ends with status 0, done; 1, refused by the rules; 2, called wrongly, or a file or a
+// stream that could not be read or written. main.c starts it.
+use console::arguments;
+use console::ending;
+use console::ending::FAILED;
+use element_commands::read as mxf_read;
+use element_commands::write as mxf_write;
+use frame_commands::lay;
+use frame_commands::list;
+use frame_commands::read;
+use manual::help;
+use manual::names;
+use manual::names::Command;
+
+// `vanc NAME --help`: the one argument behind a command's name.
+fn asks_for_help(count: usize) -> bool {
+    if count != 3 {
+        return false;
+    }
+    let mut word = io::buffer();
+    let n = arguments::word(2, &mut word);
+    text::is(&word[..n], b"--help")
+}
+
+fn run(c: Command, name: &[u8], count: usize) -> i32 {
+    if !names::takes(c, count) {
+        return names::say_usage(c);
+    }
+    match c {
+        Command::List => list::run(count),
+        Command::Lay => lay::run(),
+        Command::Read => read::run(),
+        Command::MxfWrite => mxf_write::run(),
+        Command::MxfRead => mxf_read::run(),
+        Command::Help => help::run(count),
+        Command::HelpOption => help::overview(),
+        Command::Version => help::version(),
+        Command::Unknown => names::say_unknown(name),
+    }
+}
+
+fn start(name: &[u8], count: usize) -> i32 {
+    let c = names::named(name);
+    if asks_for_help(count) {
+        return help::of(c, name);
+    }
+    run(c, name, count)
+}
+
 #[no_mangle]
 pub extern "C" fn vanc_command() -> i32 {
-    commands::run()
+    if !files::hold_streams() {
+        ending::say_unchanged();
+        return FAILED;
+    }
+    let count = os::arg_count();
+    if count < 2 {
+        return help::say_overview();
+    }
+    let mut name = io::buffer();
+    let n = arguments::word(1, &mut name);
+    start(&name[..n], count)
 }

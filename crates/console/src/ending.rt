@@ -13,8 +13,8 @@ pub fn say_unchanged() {
     files::say(b"no file was changed", b"");
 }
 
-// Ends with a status, where the result is printed. Where it could not be printed that is said, and whether a file was written before: `written` is its
-// name, or empty.
+// Ends with a status, where the result is printed. Where it could not be printed that is said, and whether a file was written before: `written` is
+// its name, or empty.
 pub fn ended(is_printed: bool, status: i32, written: &[u8]) -> i32 {
     if is_printed {
         return status;

@@ -13,7 +13,7 @@ use libc::STDOUT_FILENO;
 
 // A line on standard error, in one write: what it is about, and what is wrong.
 pub fn say(what: &[u8], why: &[u8]) {
-    let mut line = [0u8; 8192];
+    let mut line = [0u8; 8448];
     let a = text::put_text(&mut line, 0, b"vanc: ");
     let b = text::put_text(&mut line, a, what);
     let c = text::put_text(&mut line, b, why);

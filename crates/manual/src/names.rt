@@ -1,4 +1,4 @@
-// The commands by name, and how many arguments each takes. A command that is added stands here, in `help`, and in `commands`.
+// The commands by name, and how many arguments each takes. A command that is added stands here, in `help`, and in the crate `command`.
 use console::ending::FAILED;
 
 pub enum Command {
