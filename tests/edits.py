@@ -23,6 +23,8 @@ TOP = os.getcwd()
 COUNT = "tests/edits/COUNT"
 PARTS = ("src", "specs", "proofs")
 COPIES = 2
+# A crate that is loaded costs as much as so many bytes that are checked.
+LOADED = 20000
 CUT = 150
 # How the prover says that the proof speaks of steps which the edited code does not have. Such an edit shows nothing of the facts.
 OTHER_SHAPE = ("that can be named from here", "has no field")
@@ -55,6 +57,16 @@ def dependencies():
         if colon:
             named[name.strip()] = rest.split()
     return {crate: [d for d in deps if d in named] for crate, deps in named.items()}
+
+
+def below(crates):
+    """All crates that these rest on."""
+    named, reached, left = dependencies(), set(), list(crates)
+    while left:
+        more = set(named[left.pop()]) - reached
+        reached |= more
+        left += more
+    return reached
 
 
 def edited(edit, home):
@@ -154,13 +166,13 @@ class Tries:
         self.lock, self.running, self.stopped = threading.Lock(), set(), False
         self.refused, self.failed, self.errors = 0, [], []
         self.left = queue.SimpleQueue()
-        # The longest first, so that both copies have work to the end. A crate's text times its edits stands for its time.
+        # The longest first, so that both copies have work to the end. A crate's text, and what it loads, times its edits stands for its time.
         for crate in sorted(edits, key=lambda crate: -self.weight(crate)):
             self.left.put(crate)
 
     def weight(self, crate):
         text = sum(os.path.getsize(path) for part in PARTS for path in glob.glob(f"crates/{crate}/{part}/**", recursive=True) if os.path.isfile(path))
-        return text * (3 + len(self.edits[crate]))
+        return (text + LOADED * len(below([crate]))) * (3 + len(self.edits[crate]))
 
     def say(self, line):
         with self.lock:
@@ -278,11 +290,7 @@ def main(words):
         sys.exit(0 if stand() else 1)
     edits, began = chosen(words), time.time()
     # What the crates rest on, proved before the copies are taken: a copy would prove it for itself, each time.
-    reached, left = set(), list(edits)
-    while left:
-        more = set(dependencies()[left.pop()]) - reached
-        reached |= more
-        left += more
+    reached = below(edits)
     if reached:
         done = subprocess.run(["rt", "check", *sorted(reached)], stdout=subprocess.PIPE, stderr=subprocess.STDOUT, text=True)
         if done.returncode != 0:
