@@ -1,8 +1,9 @@
 """readme.py COPY WORK: pastes the blocks of README.md that are marked `sh`, in the order of the page, into one shell; `tests/readme.sh` calls it.
 
 The shell reads them as it reads what is typed, in the folder COPY, a copy of the repository as a reader has it, with a home of its own in WORK. A
-command that ends with another status than 0 fails the test, unless the block itself asks for it (`||`, `if`). A block marked `text` right behind a block
-marked `sh` is what that has to print on standard output; a line `...` in it stands for any lines. There are no other marks and no indented blocks.
+command that ends with another status than 0 fails the test, unless the block itself asks for it (`||`, `if`). A block marked `text` right behind a
+block marked `sh` is what that has to print on standard output; a line `...` in it stands for any lines. There are no other marks and no indented
+blocks.
 """
 import os
 import re

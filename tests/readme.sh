@@ -1,6 +1,6 @@
 #!/usr/bin/env bash
-# README.md as a reader pastes it: its blocks of commands, one after the other, in a copy of the repository with what is built here, so that nothing is
-# proved again.
+# README.md as a reader pastes it: its blocks of commands, one after the other, in a copy of the repository with what is built here, so that nothing
+# is proved again.
 set -euo pipefail
 cd "$(dirname "$0")/.."
 . tests/machine.sh
