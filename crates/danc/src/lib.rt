@@ -187,7 +187,7 @@ pub fn refusal(number: u64, packet: usize) -> usize
 }
 
 // "A string is nothing, or one packet and then a string that is shorter by that packet": the bytes left fall at each call. At a
-// packet boundary the end is tested, then "5 | .. after 512 packets, not the end", 14, 15, 16. Over an array, and with a number as
+// packet boundary the end is tested, then "5 | .. after [1,275] packets, not the end", 14, 15, 16. Over an array, and with a number as
 // answer, the calls become a loop.
 fn packets_from(last: Line, room: usize, us: &[u8; 9360], end: usize, at: usize, k: usize) -> usize
     requires { ⌜ (length (now us) ≡ 9360) × Within end at k ⌝ }

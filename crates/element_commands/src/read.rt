@@ -9,7 +9,7 @@ use file_status::Known;
 use mxf::ElementRead;
 use sheet_file::NUMBERS;
 
-// The bytes of the longest element file that is read. The longest element without padding that has a sheet file is of 36,882; the rest of the
+// The bytes of the longest element file that is read. The longest element without padding that has a sheet file is of 42,986; the rest of the
 // room is for padding.
 const LONGEST: usize = 262144;
 

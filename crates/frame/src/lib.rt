@@ -8,8 +8,8 @@ ghost use Rattle.frame.specs.Bytes.{fitsArea, collected, bytesAfter, are
 
 mod blocks;
 
-// "P is at most 512." Here because every room that counts packets stands on this one.
-pub const LIMIT: usize = 512;
+// "P is at most [1,275]" (document 02, A6). Here because every room that counts packets stands on this one.
+pub const LIMIT: usize = 1275;
 
 // The standards number lines, channels, sequences and string bytes separately: one does not stand for another.
 pub struct Line(pub u16);

@@ -9,8 +9,8 @@ ghost use Rattle.rules.specs.Lister.{testedOf, numbersOf, listing as Lister·li
 use rules::Tested;
 use sheet_file::NUMBERS;
 
-// Room for the longest text: a first line, and 512 rows of at most 21 bytes.
-pub const ROOM: usize = 16384;
+// Room for the longest text: a first line, and 1,275 rows of at most 22 bytes.
+pub const ROOM: usize = 32768;
 
 // The lister's tests of a file, whose numbers then stand at the start of s.
 fn tested(file: &[u8], s: &mut [u16; NUMBERS]) -> Tested

@@ -36,8 +36,8 @@ pub record Row (A : Type 0) : Type 0 where
   pub packet : List A → Packet
   pub rest : List A → List A
 
--- "Packets .. count from 0; the first at fault is named." At most `left` packets, the first of them number i; "5 | .. after 512
--- packets, not the end"
+-- "Packets .. count from 0; the first at fault is named." At most `left` packets, the first of them number i; "5 | .. after
+-- [1,275] packets, not the end"
 module _ {A : Type 0} (row : Row A) where
   abbrev pub packetsIn : ℕ → ℕ → List A → Outcome
   packetsIn zero i s = cond (row .ends s) (listed []) (refused 5 i)

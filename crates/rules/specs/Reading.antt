@@ -125,7 +125,7 @@ packetsOfOpened y (opened s room) = packetsIn (stringRow y room) limit 0 s
 packetsOfOpened y shut = refused 13 0
 
 -- "Refusal 13 is given unless one of these holds. The first user byte in laying order is FFh and so is every other. Or it is E1h,
--- .. Or it is E3h, .." Then "packet by packet 5 (only a 513th), 14, 15, 16"
+-- .. Or it is E3h, .." Then "packet by packet 5 (only a [1,276th]), 14, 15, 16"
 unfoldable pub packetsOfUserBytes : System → List ℕ → List ℕ → Outcome
 packetsOfUserBytes y sizes ub =
     cond (eqb (firstByte ub) 0xFF) (unless 13 (allIs 0xFF ub) (listed []))

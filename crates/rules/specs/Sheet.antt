@@ -8,9 +8,10 @@ use lib.ListN.{length, getD, take, drop}
 use Rattle.rules.specs.Base.{joined}
 use Rattle.rules.specs.Packet.{Packet, words}
 
--- "P is at most 512."
+-- "P is at most 512", and since document 02, A6, "1,275, the most that 8,928 bytes can hold"; "Demands 2 and 3 read 1,275 for 512, and so
+-- does 5's place on reading". Quotations that have the limit in them have the new one, in brackets
 unfoldable pub limit : ℕ
-limit = 512
+limit = 1275
 
 -- "P pairs: line .. and flags"
 abbrev pub locations : List Packet → List ℕ

@@ -270,7 +270,7 @@ paired s ps = unless 11 (eqb (length ps) (countIn s)) (listed (located (location
 
 -- a sheet's count, as the code has it
 module _ (sys : ℕ) (y : System) (s : List ℕ) (p : ℕ) (is : p ≡ countIn s) where
-  -- "laying: P over 512"
+  -- "laying: P over [1,275]"
   pub too-many : limit < p → testedOf 0 (refused 5 0) ≡ testedOf sys (listTests y s)
   unfolding listTests
   too-many h = rw (lt-leb (countIn s) limit (omega arith))

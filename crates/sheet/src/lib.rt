@@ -99,7 +99,7 @@ fn packets(system: u64, ws: &[u16]) -> Tested
     }
 }
 
-// The tests of the list: "5 | laying: P over 512", 6, 7 to 10 packet by packet, "11 | packets and locations differ in number".
+// The tests of the list: "5 | laying: P over [1,275]", 6, 7 to 10 packet by packet, "11 | packets and locations differ in number".
 fn list_tests(system: u64, last: Line, s: &[u16]) -> Tested
     requires { ⌜ shaped (now s) ≡ true ⌝ }
     ensures { λ r. ⌜ ((y : System) → y .last ≡ last .0 → r ≡ testedOf system (listTests y (now (s .entry)))) ⌝ }

@@ -109,7 +109,7 @@ module _ (y : System) (s : List Five) (k : ℕ) where
   packs-ended zero e = rw e
   packs-ended (suc left) e = rw e
 
-  -- "after 512 packets, not the end"
+  -- "after [1,275] packets, not the end"
   packs-full : packsEnd s ≡ false → packetsIn (packRow y) 0 k s ≡ refused 5 k
   unfolding packRow
   packs-full e = rw e

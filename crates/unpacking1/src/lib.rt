@@ -155,7 +155,7 @@ fn open_packet(us: &mut [u8], at: usize, total: usize, to: usize) -> usize
     stop
 }
 
-// "packet by packet 5 (only a 513th), 14, 15, 16": packs in order, with fill from `fill` on, opened to a string.
+// "packet by packet 5 (only a [1,276th]), 14, 15, 16": packs in order, with fill from `fill` on, opened to a string.
 fn open_packets(last: Line, us: &mut [u8], total: usize, fill: usize) -> usize
     requires { ⌜ Within (now us) 0 total × (length (now us) ≡ 9360) ⌝
         ∗ ⌜ (fill ≡ 5 * used (packsAt (now us) 0 total)) × (packsEnd (packsAt (now us) fill total) ≡ true) ⌝ }

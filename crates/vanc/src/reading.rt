@@ -145,7 +145,7 @@ fn read_users(
     written(system, 0, 0, us, 0, sheet)
 }
 
-// "Reading tests 3, 4, 13, then packet by packet 5 (only a 513th), 14, 15, 16, then 17." The user bytes are taken out into `us`.
+// "Reading tests 3, 4, 13, then packet by packet 5 (only a [1,276th]), 14, 15, 16, then 17." The user bytes are taken out into `us`.
 fn read_with(system: u64, area: &[u8], us: &mut [u8; 9360], sheet: &mut [u16]) -> ReadBack
     ensures { λ r. ⌜ Reads system (now (area .entry)) (now (sheet .entry)) r (now (sheet .exit)) ⌝ }
 {

@@ -105,7 +105,7 @@ refusal-requires c κs = search needs
 same-length : tie.Need-same-length Inv-loop μ-loop
 same-length c = after-long (c .before .before .before .before)
 
--- "5 (only a 513th)"
+-- "5 (only a [1,276th])"
 returns : tie.Need-returns Inv-loop μ-loop
 unfolding limit
 returns c = λ y e.
