@@ -7,7 +7,7 @@
 
 #include "baseline.h"
 
-enum { LIMIT = 512, STARTER = 0xE1, CARRIER = 0xE2, LONG = 0xE3, FILL = 0xFF, MOST = 9360 };
+enum { LIMIT = 1275, STARTER = 0xE1, CARRIER = 0xE2, LONG = 0xE3, FILL = 0xFF, MOST = 9360 };
 
 static const struct {
     size_t sequences;

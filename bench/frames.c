@@ -1,7 +1,7 @@
 /*
- * Lays or reads one frame of system 1, TIMES times over:
+ * Lays or reads one frame, TIMES times over:
  *
- *     frames lay|read PACKING LIST sound|early|late TIMES [time]
+ *     frames lay|read SYSTEM PACKING LIST sound|early|late TIMES [time]
  *
  * LIST   the packets, as 23x255+1x160: 23 of 255 user words and one of 160; 0x0 is none
  * early  reading: DID of the first packet is damaged in the area; late: that of the last
@@ -25,11 +25,11 @@
 #define READ vanc_read
 #endif
 
-enum { N = 10, AREA = VANC_AREA_1080_60I, SHEET = VANC_SHEET_MAX, NOBODYS = 0xA5 };
+enum { AREA = VANC_AREA_1080_50I, SHEET = VANC_SHEET_MAX, NOBODYS = 0xA5 };
 
 static uint16_t sheet[SHEET], back[SHEET];
 static uint8_t area[AREA];
-static size_t packets, words, last_packet;
+static size_t sequences, area_size, packets, words, last_packet;
 
 static void fail(const char *why)
 {
@@ -81,7 +81,7 @@ static size_t packets_of(const char *list)
     return all;
 }
 
-static void make_sheet(const char *list)
+static void make_sheet(uint64_t system, const char *list)
 {
     packets = packets_of(list);
     uint16_t *section = sheet + 3 + 2 * packets;
@@ -99,7 +99,7 @@ static void make_sheet(const char *list)
         }
     }
     sheet[0] = 1;
-    sheet[1] = 1;
+    sheet[1] = (uint16_t)system;
     sheet[2] = (uint16_t)packets;
     for (size_t k = 0; k < packets; k++) {
         sheet[3 + 2 * k] = (uint16_t)(k * 37 % 1126);
@@ -111,13 +111,13 @@ static void make_sheet(const char *list)
 /* Where byte `place` of those that the blocks carry stands in the area; the first `skip` user bytes of each block are not counted. */
 static size_t area_place(size_t place, size_t skip)
 {
-    for (size_t sequence = 0; sequence < N; sequence++)
+    for (size_t sequence = 0; sequence < sequences; sequence++)
         for (size_t block = 0; block < 3; block++)
             for (size_t channel = 0; channel < 4; channel++) {
                 size_t odd = sequence % 2, half = block == (odd ? 0 : 2);
                 size_t size = (half ? 45 : 75) - skip;
                 if (place < size)
-                    return 80 * (3 * (N * channel + sequence) + block) + (odd && half ? 33 : 3) + skip + place;
+                    return 80 * (3 * (sequences * channel + sequence) + block) + (odd && half ? 33 : 3) + skip + place;
                 place -= size;
             }
     fail("no such byte");
@@ -154,38 +154,40 @@ static void lay_times(uint64_t packing, long times)
 {
     vanc_laid r = { 0 };
     for (long k = 0; k < times; k++)
-        r = LAY(sheet, 4 + 2 * packets + words, packing, area, AREA);
+        r = LAY(sheet, 4 + 2 * packets + words, packing, area, area_size);
     printf("%lu %lu %lu %lu %016lx\n", r.number, r.place, r.packs, r.bytes, hash(area, sizeof area));
 }
 
-static void read_times(long times)
+static void read_times(uint64_t system, long times)
 {
     vanc_read_back r = { 0 };
     for (long k = 0; k < times; k++)
-        r = READ(1, area, AREA, back, SHEET);
+        r = READ(system, area, area_size, back, SHEET);
     printf("%lu %lu %lu %lu %lu %016lx\n", r.number, r.place, r.packing, r.packets, r.numbers, hash(back, sizeof back));
 }
 
 int main(int argc, char **argv)
 {
-    if (argc != 6 && argc != 7)
-        fail("frames lay|read PACKING LIST sound|early|late TIMES [time]");
-    uint64_t packing = strtoul(argv[2], NULL, 10);
-    long times = strtol(argv[5], NULL, 10);
+    if (argc != 7 && argc != 8)
+        fail("frames lay|read SYSTEM PACKING LIST sound|early|late TIMES [time]");
+    uint64_t system = strtoul(argv[2], NULL, 10), packing = strtoul(argv[3], NULL, 10);
+    long times = strtol(argv[6], NULL, 10);
     bool lays = strcmp(argv[1], "lay") == 0;
+    sequences = system == 2 ? 12 : 10;
+    area_size = 960 * sequences;
     memset(area, NOBODYS, sizeof area);
-    make_sheet(argv[3]);
-    if (!lays && LAY(sheet, 4 + 2 * packets + words, packing, area, AREA).number != 0)
+    make_sheet(system, argv[4]);
+    if (!lays && LAY(sheet, 4 + 2 * packets + words, packing, area, area_size).number != 0)
         fail("the list is not laid");
-    if (!lays && strcmp(argv[4], "sound") != 0)
-        damage(packing, strcmp(argv[4], "early") == 0 ? 0 : last_packet);
+    if (!lays && strcmp(argv[5], "sound") != 0)
+        damage(packing, strcmp(argv[5], "early") == 0 ? 0 : last_packet);
 
     clock_t begun = clock();
     if (lays)
         lay_times(packing, times);
     else
-        read_times(times);
-    if (argc == 7)
+        read_times(system, times);
+    if (argc == 8)
         printf("%.1f\n", 1e9 * (double)(clock() - begun) / CLOCKS_PER_SEC / (double)times);
     return 0;
 }

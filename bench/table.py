@@ -15,25 +15,28 @@ WORK, TOOLCHAIN, COMPILER = sys.argv[1:4]
 BARS_WITH = "12.2.0"
 PROGRAMS = ["library", "plain", "tuned"]
 
-TYPICAL, FULL1, FULL2, MANY = "30x20", "23x255+1x160", "28x255+1x97", "512x2"
+TYPICAL, FULL1, FULL2, MANY, MOST = "30x20", "23x255+1x160", "28x255+1x97", "512x2", "1275x0"
+# A call, the system, the packing, the packets, and whether they are damaged. The most packets that a frame holds fit system 2 in packing 2 alone.
 CASES = [
-    ("lay", 1, TYPICAL, "sound"),
-    ("lay", 2, TYPICAL, "sound"),
-    ("lay", 1, FULL1, "sound"),
-    ("lay", 2, FULL2, "sound"),
-    ("lay", 1, MANY, "sound"),
-    ("lay", 2, MANY, "sound"),
-    ("read", 1, TYPICAL, "sound"),
-    ("read", 2, TYPICAL, "sound"),
-    ("read", 1, FULL1, "sound"),
-    ("read", 2, FULL2, "sound"),
-    ("read", 1, MANY, "sound"),
-    ("read", 2, MANY, "sound"),
-    ("read", 1, "0x0", "sound"),
-    ("read", 1, FULL1, "early"),
-    ("read", 2, FULL2, "early"),
-    ("read", 1, FULL1, "late"),
-    ("read", 2, FULL2, "late"),
+    ("lay", 1, 1, TYPICAL, "sound"),
+    ("lay", 1, 2, TYPICAL, "sound"),
+    ("lay", 1, 1, FULL1, "sound"),
+    ("lay", 1, 2, FULL2, "sound"),
+    ("lay", 1, 1, MANY, "sound"),
+    ("lay", 1, 2, MANY, "sound"),
+    ("lay", 2, 2, MOST, "sound"),
+    ("read", 1, 1, TYPICAL, "sound"),
+    ("read", 1, 2, TYPICAL, "sound"),
+    ("read", 1, 1, FULL1, "sound"),
+    ("read", 1, 2, FULL2, "sound"),
+    ("read", 1, 1, MANY, "sound"),
+    ("read", 1, 2, MANY, "sound"),
+    ("read", 2, 2, MOST, "sound"),
+    ("read", 1, 1, "0x0", "sound"),
+    ("read", 1, 1, FULL1, "early"),
+    ("read", 1, 2, FULL2, "early"),
+    ("read", 1, 1, FULL1, "late"),
+    ("read", 1, 2, FULL2, "late"),
 ]
 CALLS = 20
 
@@ -77,26 +80,28 @@ def mean(ratios):
 
 
 def name(case):
-    call, packing, packets, state = case
+    call, system, packing, packets, state = case
     if packets == "0x0":
         return f"{call} an empty area"
     text = f"{call} {packets.replace('1x', '').replace('x', ' × ').replace('+', ' + ')}, packing {packing}"
+    text += ", system 2" if system == 2 else ""
     return text if state == "sound" else f"{text}, damaged, refused {state}"
 
 
 def print_table(measure):
     """A row for each case. Gives whether they are within the bars, which are stated for instructions."""
-    plain, tuned = [], []
+    plain, tuned, most = [], [], []
     print("| Call, packets × DC | Library | Plain C | Tuned C | Ratio to plain | Ratio to tuned |")
     print("|---|---:|---:|---:|---:|---:|")
     for case in CASES:
         library, of_plain, of_tuned = measure(case)
         plain.append(library / of_plain)
         tuned.append(library / of_tuned)
+        most += [tuned[-1]] if MOST in case else []
         print(f"| {name(case)} | {library:,.0f} | {of_plain:,.0f} | {of_tuned:,.0f} | {plain[-1]:.2f} | {tuned[-1]:.2f} |")
     print(f"| geometric mean | | | | {mean(plain):.2f} | {mean(tuned):.2f} |")
     print(f"| highest | | | | {max(plain):.2f} | {max(tuned):.2f} |")
-    return max(plain) <= 1 and mean(plain) <= 0.75 and mean(tuned) <= 1
+    return max(plain) <= 1 and max(most) <= 1 and mean(plain) <= 0.75 and mean(tuned) <= 1
 
 
 def print_growth():
@@ -104,16 +109,17 @@ def print_growth():
     print("| Packets × DC | Lay, packing 1 | Lay, packing 2 | Read, packing 1 | Read, packing 2 |")
     print("|---|---:|---:|---:|---:|")
     for packets in ["0x0", "1x0", "128x0", "256x0", "512x0", "23x0", "23x64", "23x128", "23x255"]:
-        counts = [instructions("library", (call, packing, packets, "sound"))[1] for call in ("lay", "read") for packing in (1, 2)]
+        counts = [instructions("library", (call, 1, packing, packets, "sound"))[1] for call in ("lay", "read") for packing in (1, 2)]
         print(f"| {packets.replace('x', ' × ')} | " + " | ".join(f"{count:,.0f}" for count in counts) + " |")
 
 
 def print_tables():
-    print(f"x86-64 instructions of one call, system 1. Library: {TOOLCHAIN}. C: gcc {COMPILER} -O3.")
+    print(f"x86-64 instructions of one call, system 1 where no other is named. Library: {TOOLCHAIN}. C: gcc {COMPILER} -O3.")
     print()
     met = print_table(counted)
     print()
-    print("Bars of the instructions above: at most 1.00 of plain C in every case; in the mean at most 0.75 of it, and 1.00 of tuned C.")
+    print("Bars of the instructions above: at most 1.00 of plain C in every case, and of tuned C with the most packets; in the mean at most 0.75 of")
+    print("plain C, and 1.00 of tuned C.")
     print("Within the bars." if met else "NOT within the bars.")
     if COMPILER != BARS_WITH:
         print(f"With gcc {COMPILER} that is no verdict: the bars were met with gcc {BARS_WITH}.")

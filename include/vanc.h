@@ -9,7 +9,7 @@
  *    2  the sheet's counts do not agree with its length                          0
  *    3  system not 1 (1080/60i), 2 (1080/50i) or 3 (720/60p)                     0
  *    4  the area's length is not the system's                                    0
- *    5  more than 512 packets                                                    0 for a sheet, 512 on reading
+ *    5  more than 1,275 packets                                                  0 for a sheet, 1275 on reading
  *    6  line or flags out of range                                               the location
  *    7  fewer than 7 words left, or no 000h 3FFh 3FFh                            the packet
  *    8  a word from DID to the last user word is not its byte with parity        the packet
@@ -28,6 +28,10 @@
  *
  * Packets and locations count from 0. Where several apply, the tests are made in a fixed order and the first is named.
  *
+ * No packets that fit a frame are more than 1,275. So 5 is given: for a sheet, where its P is over 1,275; for an element, where its number
+ * of packets is; and of areas only for one of 1080/50i in packing 2 in which 1,275 packets, with at most two user words together, are
+ * followed by one to three bytes that are not all FFh. It is never given for packing 1, nor for an area of 1080/60i or 720/60p.
+ *
  * Pointers: each points to as many numbers or bytes as its length says, also where that is 0, so none is null; what a call writes
  * does not overlap what it reads. A call keeps no pointer, allocates nothing and has no state: calls may run side by side. It takes
  * less than 64 KB of stack.
@@ -44,8 +48,8 @@ extern "C" {
 #endif
 
 /* This version, and as one number for #if: 10000 x major + 100 x minor + patch. */
-#define VANC_VERSION "0.2.0"
-#define VANC_VERSION_NUMBER 200
+#define VANC_VERSION "0.3.0"
+#define VANC_VERSION_NUMBER 300
 
 /* The toolchain that all was proved with. */
 #define VANC_TOOLCHAIN "rattle-kit-5b-plain logic 097e4c862dff5811"
@@ -55,14 +59,14 @@ extern "C" {
 #define VANC_AREA_1080_50I 11520
 #define VANC_AREA_720_60P 9600
 
-/* Numbers that the sheet of every frame has room in: 512 locations and 8,928 words. */
-#define VANC_SHEET_MAX 9956
+/* Numbers that the sheet of every frame has room in: 1,275 locations and 8,928 words. */
+#define VANC_SHEET_MAX 11482
 
-/* Bytes that the element of every sheet has room in: 22, and for 512 packets of 65,535 words together 10 more each than words. */
-#define VANC_ELEMENT_MAX 70677
+/* Bytes that the element of every sheet has room in: 22, and for 1,275 packets of 65,535 words together 10 more each than words. */
+#define VANC_ELEMENT_MAX 78307
 
-/* Numbers that the sheet of every element has room in: 512 locations and 65,535 words. */
-#define VANC_ELEMENT_SHEET_MAX 66563
+/* Numbers that the sheet of every element has room in: 1,275 locations and 65,535 words. */
+#define VANC_ELEMENT_SHEET_MAX 68089
 
 /* The numbers by name. */
 enum {
@@ -103,7 +107,7 @@ static inline const char *vanc_refusal_text(uint64_t number)
     case VANC_REFUSED_AREA:
         return "the area is not as long as the system's: 9600 bytes, or 11520 in 1080/50i";
     case VANC_REFUSED_LIMIT:
-        return "more packets than the limit of 512";
+        return "more packets than the limit of 1275";
     case VANC_REFUSED_LOCATION:
         return "the line is past the system's last, or the flags are over 3";
     case VANC_REFUSED_START:
