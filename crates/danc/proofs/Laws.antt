@@ -88,8 +88,9 @@ module _ (y : System) (last : ℕ) (e : y .last ≡ last) (h0 h1 : ℕ) where
       past : (a : ℕ) → ltb last a ≡ not (leb a last)
       past a = go a (leb a last) refl
 
--- the bytes from DID to the last user byte have the sum that CS is of
-part-sum : (s : List ℕ) → getD s 5 0 + 7 ≤ length s → checkOf (packetOfBytes s) % 256 ≡ sum (take (getD s 5 0 + 6 - 3) (drop 3 s)) % 256
+-- the bytes from DID to the last user byte have the sum that CS is of, DID and SDID apart
+part-sum : (s : List ℕ) → getD s 5 0 + 7 ≤ length s
+    → checkOf (packetOfBytes s) % 256 ≡ (getD s 3 0 + getD s 4 0 + sum (take (getD s 5 0 + 6 - 5) (drop 5 s))) % 256
 unfolding checkOf coded
 part-sum [] h = absurd (omega arith)
 part-sum (a ∷ []) h = absurd (omega arith)
@@ -98,13 +99,14 @@ part-sum (a ∷ b ∷ c ∷ []) h = absurd (omega arith)
 part-sum (a ∷ b ∷ c ∷ d ∷ []) h = absurd (omega arith)
 part-sum (a ∷ b ∷ c ∷ d ∷ e ∷ []) h = absurd (omega arith)
 part-sum (a ∷ b ∷ c ∷ d ∷ e ∷ n ∷ t) h =
-    let k : n + 6 - 3 ≡ suc (suc (suc n)) = omega arith in
+    let k : n + 6 - 5 ≡ suc n = omega arith in
     let l : length (take n t) ≡ n = length-take-le n t (omega arith) in
-    rw (k, l) (check-sum (d ∷ e ∷ n ∷ take n t))
+    let z = check-sum (d ∷ e ∷ n ∷ take n t) in
+    rw (k, l) (z ∙ (omega arith))
 
 -- the tests of a packet, from what the code holds: DC, the byte where CS is, the sum
 module _ (y : System) (s : List ℕ) (fit : getD s 5 0 + 7 ≤ length s) (dc total : ℕ) (d : dc ≡ getD s 5 0)
-    (e : total ≡ sum (take (dc + 6 - 3) (drop 3 s)) % 256) where
+    (e : total ≡ (getD s 3 0 + getD s 4 0 + sum (take (dc + 6 - 5) (drop 5 s))) % 256) where
   same-check : eqb (getD s (getD s 5 0 + 6) 0) (checkOf (packetOfBytes s) % 256) ≡ eqb (getD s (dc + 6) 0) total
   same-check = rw (part-sum s fit, ← d, e)
 

@@ -68,13 +68,13 @@ fn line_fault(last: Line, h0: u8, h1: u8) -> bool
     last.0 < line.0
 }
 
-// "Summing bytes: the low eight bits agree", and a stored CS byte has no others. From DID to the last user byte there are 258 bytes at
-// most, which come to 65,790: more than a u16 holds. The whole sum is reduced once.
-fn sum_of(s: &[u8]) -> u8
-    requires { ⌜ length (now s) ≤ 258 ⌝ }
-    ensures { λ r. ⌜ r ≡ sum (now (s .entry)) % 256 ⌝ }
+// "Summing bytes: the low eight bits agree", and a stored CS byte has no others: the sum of some bytes onto one that was begun. From DID to
+// the last user byte there are 258 bytes at most, which come to 65,790: more than a u16 holds. The whole sum is reduced once.
+fn sum_onto(begun: u32, s: &[u8]) -> u8
+    requires { ⌜ (begun ≤ 510) × (length (now s) ≤ 256) ⌝ }
+    ensures { λ r. ⌜ r ≡ (begun + sum (now (s .entry))) % 256 ⌝ }
 {
-    let mut sum: u32 = 0;
+    let mut sum = begun;
     let mut i = 0;
     while i < s.len() {
         sum += s[i] as u32;
@@ -83,13 +83,15 @@ fn sum_of(s: &[u8]) -> u8
     (sum % 256) as u8
 }
 
-// "15 | stored CS byte is not the sum's low byte", then 16, of bytes from header byte 0 to CS; 0 for neither.
+// "15 | stored CS byte is not the sum's low byte", then 16, of bytes from header byte 0 to CS; 0 for neither. DID and SDID are summed apart:
+// DC alone is then left to the loop of a packet without user bytes, and 256 bytes of the longest, which vectors sum without a rest.
 fn packet_fault(last: Line, s: &[u8]) -> u64
     requires { ⌜ getD (now s) 5 0 + 7 ≤ length (now s) ⌝ }
     ensures { λ r. ⌜ ((y : System) → y .last ≡ last .0 → r ≡ bytesFault y (now (s .entry))) ⌝ }
 {
     let end = wide(s[5]) + 6;
-    let sum = sum_of(&s[3..end]);
+    let ids = s[3] as u32 + s[4] as u32;
+    let sum = sum_onto(ids, &s[5..end]);
     if s[end] != sum {
         return 15;
     }

@@ -16,7 +16,7 @@ use lib.Seq.{drop-cons, take-add, drop-drop, take-all}
 use borrow.Author.Tests.{eq-eqb, ne-eqb, eqb-true}
 use Rattle.rules.specs.Packet.{parity, word, sum9, check}
 use Rattle.rules.specs.Laying.{isWord, areWords}
-use Rattle.rules.proofs.Basics.{both, copy-turn, copy-full}
+use Rattle.rules.proofs.Basics.{both, rest-part, copy-turn, copy-full}
 use Rattle.packet.specs.Run.{passOf, wordsFrom, wordTable}
 use Rattle.packet.specs.declared.Pass.{Pass}
 
@@ -127,6 +127,13 @@ pub sum9-part : (n at m : ℕ) (ws : List ℕ) (r : Pass) → r ≡ passOf (take
     → r .sum + sum9 (drop m ws) ≡ sum9 (drop at ws)
 sum9-part n at m ws r e f =
     rw (e, ← f) (sym (sum9-append (take n (drop at ws)) (drop (at + n) ws)) ∙ ap sum9 (part-joined n at ws))
+
+-- two words summed apart, and the rest reduced already
+pub sum9-ids : (ws : List ℕ) (a b r : ℕ) → 2 ≤ length ws → a ≡ getD ws 0 0 % 512 → b ≡ getD ws 1 0 % 512
+    → r ≡ sum9 (take (length ws - 2) (drop 2 ws)) % 512 → (a + b + r) % 512 ≡ sum9 ws % 512
+sum9-ids [] a b r h e f g = absurd (omega arith)
+sum9-ids (v ∷ []) a b r h e f g = absurd (omega arith)
+sum9-ids (v ∷ w ∷ ws) a b r h e f g = let k = rw (rest-part 2 (v ∷ w ∷ ws)) at g in omega arith
 
 -- 258 × 511 = 131,838 for the words of a packet
 pub sum9-most : (n : ℕ) (ws : List ℕ) → sum9 (take n ws) ≤ 511 * n

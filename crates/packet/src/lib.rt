@@ -93,11 +93,17 @@ fn check_word(sum: u16) -> u16
     (sum + 256) % 512 + 256
 }
 
-// CS of the words from DID to the last user word.
+// CS of the words from DID to the last user word. DID and SDID are summed apart: DC alone is then left to the loop of a packet without user
+// words, and 256 words of the longest packet, which vectors sum without a rest.
 pub fn check_of(ws: &[u16]) -> u16
     ensures { λ r. ⌜ r ≡ check (now (ws .entry)) ⌝ }
 {
-    check_word(run_of(ws).sum)
+    if ws.len() < 2 {
+        return check_word(run_of(ws).sum);
+    }
+    let ids = low_nine(ws[0]) + low_nine(ws[1]);
+    let rest = run_of(&ws[2..]).sum as u32;
+    check_word(((ids + rest) % 512) as u16)
 }
 
 // The words of all bytes, to look a few words up in: that takes a third of the instructions of computing each.

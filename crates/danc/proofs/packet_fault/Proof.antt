@@ -1,6 +1,7 @@
 -- `danc::packet_fault` meets its contract: CS wrong; CS right, and the test of the line.
 use mathlib.Core.Path.{sym, _∙_}
 use mathlib.Core.Bool.{true, false}
+use native.Mathlib.Omega.{arith}
 use borrow.Author.Needs.{needs}
 use Rattle.danc.proofs.Laws.{check-wrong, check-right}
 use Rattle.danc.proofs.packet_fault.Statement.{statement}
@@ -15,17 +16,36 @@ wide-requires c κs = search needs
 add-end : tie.Need-add-end
 add-end c = search needs
 
-sub-sum-of : tie.Need-sub-sum-of
-sub-sum-of c = search needs
+shared-slice-read-ids : tie.Need-shared-slice-read-ids
+shared-slice-read-ids c = search needs
 
-part-sum-of-start : tie.Need-part-sum-of-start
-part-sum-of-start c = search needs
+cast-ids : tie.Need-cast-ids
+cast-ids c = omega (arith, c .shared-slice-known3 .given 3)
 
-part-sum-of-end : tie.Need-part-sum-of-end
-part-sum-of-end c = search needs
+shared-slice-read-ids-2 : tie.Need-shared-slice-read-ids-2
+shared-slice-read-ids-2 c = search needs
 
-sum-of-requires : tie.Need-sum-of-requires
-sum-of-requires c κs = search needs
+cast-ids-2 : tie.Need-cast-ids-2
+cast-ids-2 c = omega (arith, c .shared-slice-known4 .given 4)
+
+add-ids : tie.Need-add-ids
+add-ids c = let a = c .shared-slice-known4 .given 3 in let b = c .shared-slice-known4 .given 4 in omega arith
+
+sub-sum-onto : tie.Need-sub-sum-onto
+sub-sum-onto c = search needs
+
+part-sum-onto-start : tie.Need-part-sum-onto-start
+part-sum-onto-start c = search needs
+
+part-sum-onto-end : tie.Need-part-sum-onto-end
+part-sum-onto-end c = search needs
+
+sum-onto-requires : tie.Need-sum-onto-requires
+sum-onto-requires c κs =
+    let d = c .before in
+    let a = d .shared-slice-known4 .given 3 in
+    let b = d .shared-slice-known4 .given 4 in
+    (omega arith, search needs)
 
 shared-slice-read-if1 : tie.Need-shared-slice-read-if1
 shared-slice-read-if1 c = search needs
@@ -33,8 +53,8 @@ shared-slice-read-if1 c = search needs
 returns : tie.Need-returns
 returns c y e =
     let d = c .before .before in
-    let a = d .before .before in
-    check-wrong y _ (a .before .before .before .pre) _ _ (a .wide .ensures .0) (d .sum-of .ensures) (c .if1 .taken)
+    let a = d .before .before .before .before in
+    check-wrong y _ (a .before .before .before .pre) _ _ (a .wide .ensures .0) (d .sum-onto .ensures) (c .if1 .taken)
 
 shared-slice-read-line-fault : tie.Need-shared-slice-read-line-fault
 shared-slice-read-line-fault c = search needs
@@ -49,16 +69,16 @@ returns-2 : tie.Need-returns-2
 returns-2 c y e =
     let f = c .before .before .before .before in
     let d = f .before .before in
-    let a = d .before .before in
-    check-right y _ (a .before .before .before .pre) _ _ (a .wide .ensures .0) (d .sum-of .ensures) (f .if1 .left) true
+    let a = d .before .before .before .before in
+    check-right y _ (a .before .before .before .pre) _ _ (a .wide .ensures .0) (d .sum-onto .ensures) (f .if1 .left) true
     (sym (c .if2 .taken) ∙ c .before .line-fault .ensures y e)
 
 returns-3 : tie.Need-returns-3
 returns-3 c y e =
     let f = c .before .before .before .before in
     let d = f .before .before in
-    let a = d .before .before in
-    check-right y _ (a .before .before .before .pre) _ _ (a .wide .ensures .0) (d .sum-of .ensures) (f .if1 .left) false
+    let a = d .before .before .before .before in
+    check-right y _ (a .before .before .before .pre) _ _ (a .wide .ensures .0) (d .sum-onto .ensures) (f .if1 .left) false
     (sym (c .if2 .left) ∙ c .before .line-fault .ensures y e)
 
 pub packet-fault-spec : {M : Type 1} → statement M
@@ -68,10 +88,15 @@ packet-fault-spec =
     shared-slice-read-wide
     wide-requires
     add-end
-    sub-sum-of
-    part-sum-of-start
-    part-sum-of-end
-    sum-of-requires
+    shared-slice-read-ids
+    cast-ids
+    shared-slice-read-ids-2
+    cast-ids-2
+    add-ids
+    sub-sum-onto
+    part-sum-onto-start
+    part-sum-onto-end
+    sum-onto-requires
     shared-slice-read-if1
     returns
     shared-slice-read-line-fault

@@ -1,5 +1,5 @@
--- `danc::sum_of` meets its contract. The loop's invariant: the sum so far is at most 255 for each byte, and with that of the bytes ahead
--- it is the whole's.
+-- `danc::sum_onto` meets its contract. The loop's invariant: the sum so far is at most what was begun and 255 for each byte, and with that of
+-- the bytes ahead it is the whole's onto what was begun.
 use Prim.Native.Nat.{ℕ, _+_, _-_, _*_, _≤_, _<_}
 use mathlib.Core.Path.{_≡_}
 use mathlib.Core.List.{List}
@@ -9,20 +9,20 @@ use lib.ListN.{length, getD, drop, drop-of-length-le}
 use lib.Seq.{drop-cons}
 use borrow.Author.Needs.{needs}
 use Rattle.rules.specs.Base.{sum as total}
-use Rattle.danc.proofs.sum_of.Statement.{statement}
-use Rattle.danc.proofs.sum_of.Tie as tie
+use Rattle.danc.proofs.sum_onto.Statement.{statement}
+use Rattle.danc.proofs.sum_onto.Tie as tie
 
 -- the byte at i is added
-turn : (s : List ℕ) (i n : ℕ) → i < length s → n + total (drop i s) ≡ total s → n + getD s i 0 + total (drop (i + 1) s) ≡ total s
-turn s i n h e =
-    let f : n + (getD s i 0 + total (drop (i + 1) s)) ≡ total s = rw (add-one i) (rw (drop-cons s i 0 h) at e) in
+turn : (s : List ℕ) (i n m : ℕ) → i < length s → n + total (drop i s) ≡ m → n + getD s i 0 + total (drop (i + 1) s) ≡ m
+turn s i n m h e =
+    let f : n + (getD s i 0 + total (drop (i + 1) s)) ≡ m = rw (add-one i) (rw (drop-cons s i 0 h) at e) in
     omega arith
 
 abbrev Inv-loop : tie.InvT-loop
-Inv-loop s sum₀ i₀ sum i = (sum ≤ 255 * i) × (sum + total (drop i s) ≡ total s)
+Inv-loop begun s sum₀ i₀ sum i = (sum ≤ begun + 255 * i) × (sum + total (drop i s) ≡ begun + total s)
 
 abbrev μ-loop : tie.MeasureT-loop
-μ-loop s sum₀ i₀ sum i = length s - i
+μ-loop begun s sum₀ i₀ sum i = length s - i
 
 loop-holds : tie.Need-loop-holds Inv-loop μ-loop
 loop-holds c = search needs
@@ -46,7 +46,7 @@ loop-again : tie.Need-loop-again Inv-loop μ-loop
 loop-again c =
     let l = c .before .before .loop in
     let b = c .shared-slice-known .given (l .i) in
-    (omega arith, turn _ _ _ (c .before .loop-test .taken) (l .inv .1))
+    (omega arith, turn _ _ _ _ (c .before .loop-test .taken) (l .inv .1))
 
 cast-result : tie.Need-cast-result Inv-loop μ-loop
 cast-result c = search needs
@@ -56,8 +56,8 @@ returns c =
     let e = rw (drop-of-length-le _ (c .loop-test .left)) at (c .before .loop .inv .1) in
     omega arith
 
-pub sum-of-spec : {M : Type 1} → statement M
-sum-of-spec =
+pub sum-onto-spec : {M : Type 1} → statement M
+sum-onto-spec =
     tie.close
     (tie.spec
     Inv-loop
