@@ -6,6 +6,7 @@ WORK has the programs library, plain and tuned (bench/frames.c linked with each)
 """
 import math
 import platform
+import re
 import shutil
 import subprocess
 import sys
@@ -83,8 +84,8 @@ def name(case):
     call, system, packing, packets, state = case
     if packets == "0x0":
         return f"{call} an empty area"
-    text = f"{call} {packets.replace('1x', '').replace('x', ' × ').replace('+', ' + ')}, packing {packing}"
-    text += ", system 2" if system == 2 else ""
+    counts = re.sub(r"\d+", lambda count: f"{int(count[0]):,}", packets.replace("1x", ""))
+    text = f"{call} {counts.replace('x', ' × ').replace('+', ' + ')}, packing {packing}{', system 2' if system == 2 else ''}"
     return text if state == "sound" else f"{text}, damaged, refused {state}"
 
 
