@@ -3,25 +3,25 @@
 -- bytes together, where the one to three bytes that remain are not all FFh.
 --
 -- In order: what the blocks hold; no list that fits reaches 1,276 packets (`fits-few`); where 5 occurs (`FiveAt`, `five-small`): nowhere
--- else (`five-where`), and there (`five-there`).
+-- else (`five-where`), there (`five-there`), and that there are such areas (`five-laid`).
 -- Assumes nothing.
 use Prim.Native.Nat.{ℕ, _+_, _*_, _/_, _≤_}
 use mathlib.Core.Path.{_≡_, refl, sym, ap, _∙_, subst}
 use mathlib.Core.Logic.{_⊎_, inl, inr, ⊎-elim}
 use mathlib.Core.Bool.{Bool, true, false, cond}
-use mathlib.Core.List.{List, [], _∷_, _++_, map}
+use mathlib.Core.List.{List, [], _∷_, _++_, map, append-nil}
 use native.Mathlib.Omega.{arith}
 use lib.Dec.{eqb, ltb, leb}
-use lib.ListN.{length, length-append, length-map}
+use lib.ListN.{length, length-append, length-map, length-replicate}
 use borrow.Author.Tests.{eqb-true, leb-true, lt-ltb}
 use Rattle.rules.specs.Base.{allIs, sum, All, none, Bytes}
 use Rattle.rules.specs.Systems.{System, hd1080-60i, hd1080-50i, hd720-60p, known, system}
 use Rattle.rules.specs.Packet.{Packet}
 use Rattle.rules.specs.Danc.{Item, Good, packetsOf, string, stringBytes}
 use Rattle.rules.specs.Sheet.{limit, sheetOf}
-use Rattle.rules.specs.Blocks.{blockStart, shift, width, runs, blockSizes, areaSize, userBytesIn}
+use Rattle.rules.specs.Blocks.{blockStart, shift, width, runs, blockSizes, areaSize, userBytesIn, scatter}
 use Rattle.rules.specs.Packing1.{flat, fives, packsOf}
-use Rattle.rules.specs.Packing2.{opened, openLong, stringRoom}
+use Rattle.rules.specs.Packing2.{fill, longPacks, opened, openLong, stringRoom}
 use Rattle.rules.specs.Packings.{capacity, needed, fits}
 use Rattle.rules.specs.Numbers.{Outcome, listed, refused, unless, andThen, packetsIn}
 use Rattle.rules.specs.Reading.{stringEnds, stringRow, packRow, packetsOfUserBytes, packingFound, reading, readBackOf, read}
@@ -30,8 +30,8 @@ use Rattle.rules.specs.declared.ReadBack.{ReadBack}
 use Rattle.rules.proofs.Basics.{never, second-false}
 use Rattle.rules.proofs.Strings.{string-room, string-over-read, string-over-laid}
 use Rattle.rules.proofs.Packs.{flat-fives, flat-length, packs-least, packs-over}
-use Rattle.rules.proofs.Long.{opened-first, opened-room, long-bytes}
-use Rattle.rules.proofs.Blocks.{gather-length, gather-bytes, from-test, facts-of}
+use Rattle.rules.proofs.Long.{long-length, long-read, opened-first, opened-room, long-bytes}
+use Rattle.rules.proofs.Blocks.{gather-length, gather-bytes, gather-scatter, from-test, facts-of}
 use Rattle.rules.proofs.Users.{users-refusal}
 use Rattle.rules.proofs.Reading.{reading-is}
 
@@ -258,3 +258,45 @@ five-there sys area sheet r after i f l d =
     let e : r ≡ record { number = 5; place = limit; packing = 0; packets = 0; numbers = 0 } =
     d .answer ∙ rw (reading-is sys k area l (length sheet), five-users sys k area l i f) in
     (ap (λ (x : ReadBack). x .number) e, ap (λ (x : ReadBack). x .place) e)
+
+-- and there are such areas: any area of system 2, with the string of any such packets, and any such bytes behind it, laid in its long packs
+pub five-laid : (xs : List Item) (tail area : List ℕ) → All (Good (system 2)) xs → length xs ≡ limit → userCount (packetsOf xs) + length tail ≡ 3
+    → allIs 0xFF tail ≡ false → length area ≡ areaSize (system 2)
+    → FiveAt 2 (scatter (runs (system 2)) (longPacks (blockSizes (system 2)) [] (string xs ++ tail)) area) limit
+unfolding known system limit
+five-laid xs tail area g many three e l =
+    let f = facts-of 2 refl in
+    let a : length (string xs ++ tail) ≡ 8928 = let b = string-bytes xs in let c = length-append (string xs) tail in omega arith in
+    let r : stringRoom ns ≡ 8928 = room12 in
+    let o = long-read ns [] (string xs ++ tail) (f .roomy) (omega arith) (omega arith) in
+    let us = long-length ns [] (string xs ++ tail) (f .roomy) in
+    let w = opened-room 42 ns laid ((string xs ++ tail) ++ fill (o .over)) (o .last) (holds 2 .blocks) us (o .is) in
+    let z : o .over ≡ 0 =
+    let h = length-append (string xs ++ tail) (fill (o .over)) in
+    let j : length (fill (o .over)) ≡ o .over = length-replicate (o .over) 0xFF in
+    ⊎-elim (λ q. omega arith) (λ q. omega arith) (w .2) in
+    let u : userBytesIn y (scatter (runs y) laid area) ≡ laid = gather-scatter (areaSize y) (runs y) laid area (f .within) (f .apart) us l in
+    let p : openLong ns laid ≡ opened (string xs ++ tail) (o .last) =
+    o .is ∙ ap (λ (s : List ℕ). opened s (o .last)) (ap (λ (n : ℕ). (string xs ++ tail) ++ fill n) z ∙ append-nil (string xs ++ tail)) in
+    record {
+      two = refl;
+      place = refl;
+      packing = rw (u, opened-first ns laid (string xs ++ tail) (o .last) p);
+      items = xs;
+      tail = tail;
+      room = o .last;
+      opens = ap (openLong ns) u ∙ p;
+      good = g;
+      many = many;
+      three = three;
+      remains = e;
+    }
+  where
+    y : System
+    y = system 2
+
+    ns : List ℕ
+    ns = blockSizes y
+
+    laid : List ℕ
+    laid = longPacks ns [] (string xs ++ tail)
