@@ -2,40 +2,31 @@
 --
 -- In order: the numbers of faults; the end; 5; a fault; one packet more.
 -- Assumes nothing.
-use Prim.Native.Nat.{ℕ, zero, suc, _+_, _-_, _*_, _%_, _≤_, _<_}
+use Prim.Native.Nat.{ℕ, zero, suc, _+_, _-_, _*_, _≤_, _<_}
 use mathlib.Core.Path.{_≡_, sym, ap, _∙_}
-use mathlib.Core.Bool.{Bool, true, false, cond, not, _||_}
+use mathlib.Core.Bool.{true, false, cond}
 use mathlib.Core.List.{List}
 use native.Mathlib.Omega.{arith}
 use native.Mathlib.Numerals.{add-one}
-use lib.Dec.{eqb, ltb}
+use lib.Dec.{eqb}
 use lib.ListN.{length, getD, take, drop, length-drop}
 use lib.Seq.{length-take-le, getD-take, getD-drop, drop-drop}
 use borrow.Author.Tests.{ne-eqb}
 use Rattle.rules.specs.Systems.{System}
-use Rattle.rules.specs.Packet.{checkOf}
 use Rattle.rules.specs.Danc.{bytesOf}
 use Rattle.rules.specs.Sheet.{limit}
 use Rattle.rules.specs.Numbers.{refused, also, packetsIn}
-use Rattle.rules.specs.Reading.{packetOfBytes, lineFault, bytesFault, stringFault, stringEnds, stringRow}
+use Rattle.rules.specs.Reading.{packetOfBytes, stringFault, stringEnds, stringRow}
 use Rattle.danc.specs.Code.{base, codeOf}
 use Rattle.danc.specs.Validated.{validated}
 use Rattle.rules.proofs.Basics.{drop-take}
+use Rattle.rules.proofs.Strings.{string-faults}
 use Rattle.danc.proofs.Laws.{fault-room, run-room}
 use Rattle.danc.proofs.Codes.{code-also}
 
 -- no fault has a number over 16
 pub fault-small : (y : System) (s : List ℕ) → stringFault y s ≤ 16
-unfolding stringFault bytesFault
-fault-small y s =
-    go (ltb (length s) 7 || ltb (length s) (getD s 5 0 + 7)) (not (eqb (getD s (getD s 5 0 + 6) 0) (checkOf (packetOfBytes s) % 256)))
-    (lineFault y (getD s 0 0) (getD s 1 0))
-  where
-    go : (a b c : Bool) → cond a 14 (cond b 15 (cond c 16 0)) ≤ 16
-    go true b c = omega arith
-    go false true c = omega arith
-    go false false true = omega arith
-    go false false false = omega arith
+fault-small = string-faults (λ (n : ℕ). n ≤ 16) (omega arith) (omega arith) (omega arith) (omega arith)
 
 -- the same of a number that a test gave: a refusal has room for it
 pub is-small : (y : System) (s : List ℕ) (n : ℕ) → n ≡ stringFault y s → n < base

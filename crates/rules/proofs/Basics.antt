@@ -5,7 +5,7 @@
 use Prim.Native.Nat.{ℕ, zero, suc, _+_, _-_, _≤_, _<_}
 use mathlib.Core.Path.{_≡_, refl, sym, ap, ap₂, _∙_}
 use mathlib.Core.Logic.{_⊎_, inl, inr}
-use mathlib.Core.Bool.{Bool, true, false, _&&_, _||_}
+use mathlib.Core.Bool.{Bool, true, false, cond, _&&_, _||_}
 use mathlib.Core.List.{List, [], _∷_, _++_, map, append-assoc, append-nil}
 use native.Mathlib.Nat.{zero-add}
 use native.Mathlib.Numerals.{add-one}
@@ -39,6 +39,11 @@ neither false b e = (refl, e)
 pub second-false : (a b : Bool) → b ≡ false → (a && b) ≡ false
 second-false true b e = e
 second-false false b e = refl
+
+-- what holds of two numbers holds of the one that a test chooses
+pub chosen : (P : ℕ → Type 0) (t : Bool) (m n : ℕ) → P m → P n → P (cond t m n)
+chosen P true m n p q = p
+chosen P false m n p q = q
 
 -- ---- fill
 

@@ -14,7 +14,7 @@ use lib.Dec.{eqb, ltb, leb}
 use lib.ListN.{length, getD, take, drop, length-append, length-take, length-drop, take-append-drop, List·getD-append}
 use lib.Seq.{getD-take, getD-drop, getD-append-add, ext-getD, take-at, drop-at, length-take-le, take-append-le, drop-append-le}
 use borrow.Author.Tests.{ltb-true, ltb-false, leb-true, leb-false, eqb-true, lt-ltb, le-leb}
-use Rattle.rules.specs.Base.{count, sum, none, one, Bytes}
+use Rattle.rules.specs.Base.{count, sum, All, none, one, Bytes}
 use Rattle.rules.specs.Systems.{System, hd1080-60i, hd1080-50i, hd720-60p, known, system}
 use Rattle.rules.specs.Blocks.{Run, blockStart, shift, width, userRun, runs, sizes, blockSizes, areaSize}
 use Rattle.rules.specs.Blocks.{gather, into, scatter, outside}
@@ -263,15 +263,15 @@ pub record Facts (y : System) : Type 0 where
   pub apart : allApart (runs y) ≡ true
   pub last : y .last < 2047
 
--- every size is above three, as a test
-abbrev allRoomy : List ℕ → Bool
-allRoomy [] = true
-allRoomy (n ∷ ns) = ltb 3 n && allRoomy ns
+-- every size is m or more, as a test
+abbrev pub allFrom : ℕ → List ℕ → Bool
+allFrom m [] = true
+allFrom m (n ∷ ns) = leb m n && allFrom m ns
 
--- sizes that pass the test are above three
-roomy-of : (ns : List ℕ) → allRoomy ns ≡ true → Roomy ns
-roomy-of [] e = none
-roomy-of (n ∷ ns) e = let w = both (ltb 3 n) (allRoomy ns) e in one (ltb-true 3 n (w .0)) (roomy-of ns (w .1))
+-- sizes that pass the test are m or more
+pub from-test : (m : ℕ) (ns : List ℕ) → allFrom m ns ≡ true → All (λ (n : ℕ). m ≤ n) ns
+from-test m [] e = none
+from-test m (n ∷ ns) e = let w = both (leb m n) (allFrom m ns) e in one (leb-true m n (w .0)) (from-test m ns (w .1))
 
 -- the facts of ten sequences per channel, computed, whatever the last line
 facts10 : (line : ℕ) → line < 2047 → Facts (record { sequences = 10; last = line })
@@ -280,7 +280,7 @@ facts10 line h =
     record {
       packs = 1560;
       whole = refl;
-      roomy = roomy-of (blockSizes (record { sequences = 10; last = line })) refl;
+      roomy = from-test 4 (blockSizes (record { sequences = 10; last = line })) refl;
       within = refl;
       apart = refl;
       last = h;
@@ -293,7 +293,7 @@ facts12 line h =
     record {
       packs = 1872;
       whole = refl;
-      roomy = roomy-of (blockSizes (record { sequences = 12; last = line })) refl;
+      roomy = from-test 4 (blockSizes (record { sequences = 12; last = line })) refl;
       within = refl;
       apart = refl;
       last = h;

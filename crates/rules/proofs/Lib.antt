@@ -13,3 +13,4 @@ pub mod Laying
 pub mod Reading
 pub mod Walker
 pub mod Lister
+pub mod Limit

@@ -4,7 +4,7 @@
 -- Assumes nothing.
 use Prim.Native.Nat.{ℕ, zero, suc, _+_, _-_, _*_, _/_, _%_, _≤_, _<_}
 use mathlib.Core.Path.{_≡_, refl, sym, ap, ap₂, _∙_, subst}
-use mathlib.Core.Logic.{_⊎_, inl, inr, ⊎-elim, _≢_, _↔_}
+use mathlib.Core.Logic.{_⊎_, inl, inr, ⊎-elim, ⊎-map, _≢_, _↔_}
 use mathlib.Core.Bool.{Bool, true, false, cond}
 use mathlib.Core.List.{List, [], _∷_, _++_, append-assoc, append-nil}
 use native.Mathlib.Omega.{arith}
@@ -196,21 +196,41 @@ openPack-cases true false true s c o t d e = (refl, inl (refl, refl, cc, cc))
 openPack-cases true true r s c shut t d e = never (cc)
 openPack-cases true true r s c (opened u d′) t d e = (refl, inr (u, refl, cc, cc))
 
--- the last pack holds no more than all
-opened-room : (ns ub t : List ℕ) (d : ℕ) → Roomy ns → length ub ≡ sum ns → openLong ns ub ≡ opened t d → d ≤ length t
-opened-room [] ub t d r l e = never (cc)
-opened-room (n ∷ ns) [] t d (one hn r) l e = absurd (omega arith)
-opened-room (n ∷ ns) (a ∷ []) t d (one hn r) l e = absurd (omega arith)
-opened-room (n ∷ ns) (a ∷ b ∷ []) t d (one hn r) l e = absurd (omega arith)
-opened-room (n ∷ ns) (a ∷ b ∷ c ∷ v) t d (one hn r) l e =
+-- what opens begins with E3h
+pub opened-first : (ns ub t : List ℕ) (d : ℕ) → openLong ns ub ≡ opened t d → getD ub 0 0xFF ≡ 0xE3
+opened-first [] ub t d e = never (cc)
+opened-first (n ∷ ns) [] t d e = never (cc)
+opened-first (n ∷ ns) (a ∷ u) t d e =
+    let v : List ℕ = drop 2 u in
+    let rest : List ℕ = drop (n - 3) v in
+    let w = openPack-cases (eqb a 0xE3) (eqb (getD u 0 0 % 2) 1) (allIs 0xFF rest) (take (n - 3) v) (n - 3) (openLong ns rest) t d e in
+    eqb-true a 0xE3 (w .0)
+
+-- blocks with room for m string bytes or more each have none together, or m or more
+room-least : (m : ℕ) (ns : List ℕ) → All (λ (n : ℕ). m + 3 ≤ n) ns → (stringRoom ns ≡ 0) ⊎ (m ≤ stringRoom ns)
+room-least m [] r = inl refl
+room-least m (n ∷ ns) (one hn r) = inr (omega arith)
+
+-- what opens from such blocks: the last pack holds m or more, and no more than all; all is what the blocks hold, or less by m or more
+pub opened-room : (m : ℕ) (ns ub t : List ℕ) (d : ℕ) → All (λ (n : ℕ). m + 3 ≤ n) ns → length ub ≡ sum ns → openLong ns ub ≡ opened t d
+    → (m ≤ d) × (d ≤ length t) × ((length t ≡ stringRoom ns) ⊎ (length t + m ≤ stringRoom ns))
+opened-room m [] ub t d r l e = never (cc)
+opened-room m (n ∷ ns) [] t d (one hn r) l e = absurd (omega arith)
+opened-room m (n ∷ ns) (a ∷ []) t d (one hn r) l e = absurd (omega arith)
+opened-room m (n ∷ ns) (a ∷ b ∷ []) t d (one hn r) l e = absurd (omega arith)
+opened-room m (n ∷ ns) (a ∷ b ∷ c ∷ v) t d (one hn r) l e =
     let w = openPack-cases (eqb a 0xE3) (eqb (b % 2) 1) (allIs 0xFF (drop (n - 3) v)) (take (n - 3) v) (n - 3) (openLong ns (drop (n - 3) v)) t d e in
     let k : length (take (n - 3) v) ≡ n - 3 = length-take-le (n - 3) v (omega arith) in
     ⊎-elim
-    (λ z. let q : length (take (n - 3) v) ≡ length t = ap length (z .2) in let q2 = z .3 in omega arith)
     (λ z.
-    let m : d ≤ length (z .0) = opened-room ns (drop (n - 3) v) (z .0) d r (length-drop (n - 3) v ∙ (omega arith)) (z .2) in
+    let q : length (take (n - 3) v) ≡ length t = ap length (z .2) in
+    let q2 = z .3 in
+    (omega arith, omega arith, ⊎-map (λ f. omega arith) (λ f. omega arith) (room-least m ns r)))
+    (λ z.
+    let i = opened-room m ns (drop (n - 3) v) (z .0) d r (length-drop (n - 3) v ∙ (omega arith)) (z .2) in
     let q : length (take (n - 3) v) + length (z .0) ≡ length t = sym (length-append (take (n - 3) v) (z .0)) ∙ ap length (z .3) in
-    omega arith)
+    let h = i .1 in
+    (i .0, omega arith, ⊎-map (λ f. omega arith) (λ f. omega arith) (i .2)))
     (w .1)
 
 module _ (n : ℕ) (ns : List ℕ) (a b c : ℕ) (v : List ℕ) (x : ℕ) (s tail : List ℕ) (hn : 3 < n) (len : length v ≡ n - 3 + sum ns)
@@ -281,7 +301,7 @@ module _ (n : ℕ) (ns : List ℕ) (a b c : ℕ) (v : List ℕ) (x : ℕ) (s tai
       let u : List ℕ = z .0 in
       let k : length (take (n - 3) v) ≡ n - 3 = length-take-le (n - 3) v (omega arith) in
       let dl : length (drop (n - 3) v) ≡ sum ns = length-drop (n - 3) v ∙ (omega arith) in
-      let m : d ≤ length u = opened-room ns (drop (n - 3) v) u d r dl (z .2) in
+      let m : d ≤ length u = opened-room 1 ns (drop (n - 3) v) u d r dl (z .2) .1 in
       let j : take (n - 3) v ++ u ≡ (x ∷ s) ++ tail = z .3 ∙ q in
       let jl : length (take (n - 3) v) + length u ≡ length (x ∷ s) + length tail =
       sym (length-append (take (n - 3) v) u) ∙ ap length j ∙ length-append (x ∷ s) tail in
@@ -301,7 +321,7 @@ long-laid (n ∷ ns) [] (one hn r) l by t d e s tail q f h = absurd (omega arith
 long-laid (n ∷ ns) (a ∷ []) (one hn r) l by t d e s tail q f h = absurd (omega arith)
 long-laid (n ∷ ns) (a ∷ b ∷ []) (one hn r) l by t d e s tail q f h = absurd (omega arith)
 long-laid (n ∷ ns) (a ∷ b ∷ c ∷ v) (one hn r) l by t d e [] tail q f h =
-    let m : d ≤ length t = opened-room (n ∷ ns) (a ∷ b ∷ c ∷ v) t d (one hn r) l e in
+    let m : d ≤ length t = opened-room 1 (n ∷ ns) (a ∷ b ∷ c ∷ v) t d (one hn r) l e .1 in
     let k : length t ≡ length tail = ap length q in
     absurd (omega arith)
 long-laid (n ∷ ns) (a ∷ b ∷ c ∷ v) (one hn r) l by t d e (x ∷ s) tail q f h =

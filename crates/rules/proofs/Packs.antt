@@ -1,7 +1,7 @@
 -- Packs of 5 are read as they were laid, and what is read was laid so, for some values of the bits that a reader disregards.
 --
 -- In order: packs and bytes; carriers in front; a packet's packs, both ways; of a row: `packs-read`, `packs-laid`, `packs-unique`;
--- their order (13); how many they are and the room they take: `packs-room`, `packs-counted`.
+-- their order (13); how many they are and the room they take: `packs-room`, `packs-least`, `packs-over`, `packs-counted`.
 -- Assumes nothing.
 use Prim.Native.Nat.{ℕ, zero, suc, _+_, _-_, _*_, _/_, _%_, _≤_, _<_}
 use mathlib.Core.Path.{_≡_, refl, sym, ap, ap₂, _∙_, subst}
@@ -11,7 +11,7 @@ use mathlib.Core.List.{List, [], _∷_, _++_, map, append-assoc}
 use native.Mathlib.Omega.{arith}
 use native.Mathlib.Numerals.{one-add}
 use lib.Dec.{eqb}
-use lib.ListN.{length, getD, take, drop, replicate, length-append, length-replicate, take-append-drop}
+use lib.ListN.{length, getD, take, drop, replicate, length-append, length-map, length-replicate, take-append-drop}
 use lib.Seq.{take-at, drop-at}
 use borrow.Author.Tests.{eqb-true, eq-eqb}
 use Rattle.rules.specs.Base.{allIs, sum, joined, All, Bytes}
@@ -20,12 +20,12 @@ use Rattle.rules.specs.Packet.{Packet, checkOf}
 use Rattle.rules.specs.Danc.{Item, Good, packetsOf, header, behind, danc}
 use Rattle.rules.specs.Packing1.{Five, five, flat, fives, carriers, carriersFor, packsOf, packs, packsIn1}
 use Rattle.rules.specs.Packing2.{fill, filled}
-use Rattle.rules.specs.Numbers.{listed, packetsIn}
+use Rattle.rules.specs.Numbers.{listed, refused, packetsIn}
 use Rattle.rules.specs.Reading.{packetOfBytes, bytesFault, packRow, inOrder}
 use Rattle.rules.specs.Reading.{lead, carried, frontBytes, carriersFit, packsFault, packsEnd, afterCarriers}
-use Rattle.rules.proofs.Basics.{both, allIs-fill, fill-allIs, later-bytes}
-use Rattle.rules.proofs.Rows.{row-read, row-laid}
-use Rattle.rules.proofs.Strings.{bytes-packet, bytes-fine, bytes-rest, itemOf, bytes-laid}
+use Rattle.rules.proofs.Basics.{both, chosen, allIs-fill, fill-allIs, later-bytes}
+use Rattle.rules.proofs.Rows.{row-read, row-laid, row-over-laid}
+use Rattle.rules.proofs.Strings.{bytes-packet, bytes-fine, bytes-rest, itemOf, bytes-laid, bytes-faults}
 
 -- ---- packs and bytes
 
@@ -291,6 +291,10 @@ packs-read y hm left i xs m g few =
     })
     (fills m) (fills-follow m) (fills-end m) xs left i g few
 
+-- what follows a packet's packs is bytes if all is
+packs-later : (x : Item) (r : List Five) → Bytes (flat (packs x ++ r)) → Bytes (flat r)
+packs-later x r b = later-bytes (flat (packs x)) (flat r) (subst Bytes (flat-append (packs x) r) b)
+
 -- a row of packs is the packs of a list with some values of the free bits, and fill
 pub record PacksOf (y : System) (left : ℕ) (s : List Five) (ps : List Packet) : Type 0 where
   pub items : List Item
@@ -307,8 +311,8 @@ pub packs-laid : (y : System) (left i : ℕ) (s : List Five) (ps : List Packet) 
 unfolding packRow
 packs-laid y left i s ps h e =
     let l =
-    row-laid (packRow y) packs (λ (x : Item). x .packet) (Good y) (λ (t : List Five). Bytes (flat t))
-    (λ x r b. later-bytes (flat (packs x)) (flat r) (subst Bytes (flat-append (packs x) r) b)) (packs-uncut y) left i s ps h e in
+    row-laid (packRow y) packs (λ (x : Item). x .packet) (Good y) (λ (t : List Five). Bytes (flat t)) packs-later (packs-uncut y)
+    left i s ps h e in
     record { items = l .items; tail = l .tail; packets = l .packets; whole = l .whole; good = l .good; ends = l .ends; few = l .few }
 
 -- from one list only
@@ -363,6 +367,35 @@ packs-room m xs =
     let n = length-append (flat (joined packs xs)) (fill free) in
     let f : length (fill free) ≡ free = length-replicate free 0xFF in
     (λ e. omega arith, λ h. omega arith)
+
+-- a packet takes two packs or more
+pub packs-least : (ps : List Packet) → 2 * length ps ≤ sum (map packsOf ps)
+packs-least [] = omega arith
+packs-least (p ∷ ps) = let k = packs-least ps in omega arith
+
+-- what holds of 14, 15, 16, and 0 for none, holds of the fault of the packet in front
+packs-faults : (P : ℕ → Type 0) → P 0 → P 14 → P 15 → P 16 → (y : System) (ps : List Five) → P (packsFault y ps)
+unfolding packsFault
+packs-faults P p0 p14 p15 p16 y [] = p14
+packs-faults P p0 p14 p15 p16 y (p ∷ ps) =
+    let s : List ℕ = frontBytes (p ∷ ps) in
+    chosen P (eqb (p .b0) 0xE1 && carriersFit (lead ps) s) (bytesFault y s) 14 (bytes-faults P p0 p15 p16 y s) p14
+
+-- where 5 is given, there are packs for as many packets as there may be
+pub packs-over : (y : System) (left i : ℕ) (s : List Five) (k : ℕ) → Bytes (flat s) → packetsIn (packRow y) left i s ≡ refused 5 k
+    → 2 * left ≤ length s
+unfolding packRow
+packs-over y left i s k h e =
+    let w =
+    row-over-laid (packRow y) packs (λ (x : Item). x .packet) (Good y) (λ (t : List Five). Bytes (flat t)) packs-later (packs-uncut y)
+    left i s 5 k h (packs-faults (λ (n : ℕ). n ≡ 5 → ⊥) (λ z. omega arith) (λ z. omega arith) (λ z. omega arith) (λ z. omega arith) y) e in
+    let xs : List Item = w .1 .items in
+    let l : length s ≡ length (joined packs xs) + length (w .1 .tail) = ap length (w .1 .whole) ∙ length-append (joined packs xs) (w .1 .tail) in
+    let m = packs-length xs in
+    let n = packs-least (packetsOf xs) in
+    let c = length-map xs (λ (x : Item). x .packet) in
+    let d = w .2 in
+    omega arith
 
 in-append : (s t : List Five) → packsIn1 (s ++ t) ≡ packsIn1 s + packsIn1 t
 in-append [] t = omega arith

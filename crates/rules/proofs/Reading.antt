@@ -42,7 +42,7 @@ module _ (sys : ℕ) (k : known sys ≡ true) (area : List ℕ) (l : length area
   facts = facts-of sys k
 
   -- reading comes down to the user bytes and the room for the sheet
-  reading-is : (room : ℕ)
+  pub reading-is : (room : ℕ)
       → reading sys area room
       ≡ andThen (packetsOfUserBytes y (blockSizes y) ub) (λ (ps : List Packet). unless 17 (leb (length (sheetOf sys ps)) room) (listed ps))
   unfolding reading

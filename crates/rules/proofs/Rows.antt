@@ -1,9 +1,10 @@
 -- Reading packet after packet, once for every carrier: the words of a sheet, a string, packs of 5. What each carrier shows of one
 -- packet gives here the same of a whole row.
 --
--- In order: what is laid is read (`row-read`); what is read was laid (`row-laid`); a refusal has a number (`row-refused`); how many
--- packets there may be does not matter once they are enough (`row-enough`), and then 5 is never given (`row-fault`); there are no more
--- packets than there may be (`row-few`), nor a refusal past them (`row-place`).
+-- In order: what is laid is read (`row-read`), and a packet too many is 5 (`row-over-read`); what is read was laid (`row-laid`), and 5 is a
+-- packet too many (`row-over-laid`); a refusal has a number (`row-refused`); how many packets there may be does not matter once they are
+-- enough (`row-enough`), and then 5 is never given (`row-fault`); there are no more packets than there may be (`row-few`), nor a refusal
+-- past them (`row-place`).
 -- Assumes nothing.
 use Prim.Native.Nat.{ℕ, zero, suc, _+_, _≤_, _<_, suc-le-suc}
 use mathlib.Core.Path.{_≡_, refl, sym, ap, ap₂, _∙_, subst}
@@ -33,18 +34,15 @@ module _ {A X : Type 0} (row : Row A) (gives : X → List A) (view : X → Packe
     pub packet : (x : X) (r : List A) → Good x → Follows r → row .packet (gives x ++ r) ≡ view x
     pub rest : (x : X) (r : List A) → Good x → Follows r → row .rest (gives x ++ r) ≡ r
 
-  module _ (Follows : List A → Type 0) (c : Cut Follows) (tail : List A) (last : Follows tail) (ends : row .ends tail ≡ true) where
+  module _ (Follows : List A → Type 0) (c : Cut Follows) (tail : List A) (last : Follows tail) where
     all-follow : (xs : List X) → All Good xs → Follows (joined gives xs ++ tail)
     all-follow [] g = last
     all-follow (x ∷ xs) (one g gs) = rw append-assoc (c .follows x _ g)
 
-    -- what is laid is read
-    pub row-read : (xs : List X) (left i : ℕ) → All Good xs → length xs ≤ left
-        → packetsIn row left i (joined gives xs ++ tail) ≡ listed (map view xs)
-    row-read [] zero i g h = rw ends
-    row-read [] (suc left) i g h = rw ends
-    row-read (x ∷ xs) zero i g h = absurd (not-suc-le-zero h)
-    row-read (x ∷ xs) (suc left) i (one g gs) h =
+    -- the packet of the first item is read, and then those of the others
+    first-read : (x : X) (xs : List X) (left i : ℕ) → Good x → All Good xs
+        → packetsIn row (suc left) i (joined gives (x ∷ xs) ++ tail) ≡ also (view x) (packetsIn row left (suc i) (joined gives xs ++ tail))
+    first-read x xs left i g gs =
         let r : List A = joined gives xs ++ tail in
         let f : Follows r = all-follow xs gs in
         rw (
@@ -53,64 +51,114 @@ module _ {A X : Type 0} (row : Row A) (gives : X → List A) (view : X → Packe
           c .fault x r g f,
           c .packet x r g f,
           c .rest x r g f,
-          row-read xs left (suc i) gs (le-of-suc-le-suc h),
         )
 
-  -- the row s is items of the packets ps, and then its end
-  pub record Laid (s : List A) (ps : List Packet) (left : ℕ) : Type 0 where
+    -- what is laid is read
+    pub row-read : row .ends tail ≡ true → (xs : List X) (left i : ℕ) → All Good xs → length xs ≤ left
+        → packetsIn row left i (joined gives xs ++ tail) ≡ listed (map view xs)
+    row-read ends [] zero i g h = rw ends
+    row-read ends [] (suc left) i g h = rw ends
+    row-read ends (x ∷ xs) zero i g h = absurd (not-suc-le-zero h)
+    row-read ends (x ∷ xs) (suc left) i (one g gs) h =
+        first-read x xs left i g gs ∙ ap (also (view x)) (row-read ends xs left (suc i) gs (le-of-suc-le-suc h))
+
+    -- behind as many items as there may be, what is no end is 5
+    pub row-over-read : row .ends tail ≡ false → (xs : List X) (i : ℕ) → All Good xs
+        → packetsIn row (length xs) i (joined gives xs ++ tail) ≡ refused 5 (i + length xs)
+    row-over-read goes [] i g = let e : i ≡ i + 0 = omega arith in rw goes (ap (refused 5) e)
+    row-over-read goes (x ∷ xs) i (one g gs) =
+        let e : suc i + length xs ≡ i + suc (length xs) = omega arith in
+        first-read x xs (length xs) i g gs ∙ ap (also (view x)) (row-over-read goes xs (suc i) gs) ∙ ap (refused 5) e
+
+  -- the row s is items of the packets ps, and then its end or, where `end` is false, what is no end
+  pub record Front (end : Bool) (s : List A) (ps : List Packet) (left : ℕ) : Type 0 where
     pub items : List X
     pub tail : List A
     pub packets : map view items ≡ ps
     pub whole : s ≡ joined gives items ++ tail
     pub good : All Good items
-    pub ends : row .ends tail ≡ true
+    pub ends : row .ends tail ≡ end
     pub few : length items ≤ left
+
+  -- items and then the end
+  abbrev pub Laid : List A → List Packet → ℕ → Type 0
+  Laid s ps left = Front true s ps left
+
+  -- as many items as there may be, the first of them number i, and then no end; k is the number of the packet that would be next
+  abbrev pub Over : List A → ℕ → ℕ → ℕ → Type 0
+  Over s left i k = (ps : List Packet) × (l : Front false s ps left) × (length (l .items) ≡ left) × (k ≡ i + left)
 
   -- a front without a fault is that of a good item
   abbrev pub Uncut : (List A → Type 0) → Type 0
   Uncut Fine = (s : List A) → Fine s → row .fault s ≡ 0 → (x : X) × (view x ≡ row .packet s) × (s ≡ gives x ++ row .rest s) × Good x
 
   module _ (Fine : List A → Type 0) (later : (x : X) (r : List A) → Fine (gives x ++ r) → Fine r) (u : Uncut Fine) where
-    ended : (s : List A) (ps : List Packet) (left : ℕ) → row .ends s ≡ true → listed [] ≡ listed ps → Laid s ps left
-    ended s ps left d e = record { items = []; tail = s; packets = cc; whole = refl; good = none; ends = d; few = omega arith }
+    -- no item, and all is the tail
+    no-item : (end : Bool) (s : List A) (left : ℕ) → row .ends s ≡ end → Front end s [] left
+    no-item end s left d = record { items = []; tail = s; packets = refl; whole = refl; good = none; ends = d; few = omega arith }
 
     -- one item more in front
-    more : (s : List A) (ps : List Packet) (left : ℕ) (x : X) → view x ≡ row .packet s → s ≡ gives x ++ row .rest s → Good x
-        → (o : Outcome) → ((qs : List Packet) → o ≡ listed qs → Laid (row .rest s) qs left) → also (row .packet s) o ≡ listed ps
-        → Laid s ps (suc left)
-    more s ps left x v w g (refused n i) ih e = never (cc)
-    more s ps left x v w g (listed qs) ih e =
-        let l = ih qs refl in
+    more : (s : List A) → Fine s → row .fault s ≡ 0 → (end : Bool) (ps : List Packet) (left : ℕ) → Front end (row .rest s) ps left
+        → Front end s (row .packet s ∷ ps) (suc left)
+    more s f z end ps left l =
+        let w = u s f z in
+        let x : X = w .0 in
         record {
           items = x ∷ l .items;
           tail = l .tail;
-          packets = ap₂ (λ (q : Packet) (t : List Packet). q ∷ t) v (l .packets) ∙ (cc);
-          whole = w ∙ ap (λ (t : List A). gives x ++ t) (l .whole) ∙ sym (append-assoc (gives x) (joined gives (l .items)) (l .tail));
-          good = one g (l .good);
+          packets = ap₂ (λ (q : Packet) (t : List Packet). q ∷ t) (w .1) (l .packets);
+          whole = w .2 ∙ ap (λ (t : List A). gives x ++ t) (l .whole) ∙ sym (append-assoc (gives x) (joined gives (l .items)) (l .tail));
+          good = one (w .3) (l .good);
           ends = l .ends;
           few = suc-le-suc (l .few);
         }
 
-    at-end : (s : List A) (ps : List Packet) (i : ℕ) (d : Bool) → row .ends s ≡ d → cond d (listed []) (refused 5 i) ≡ listed ps → Laid s ps zero
-    at-end s ps i true d e = ended s ps zero d e
-    at-end s ps i false d e = never (cc)
+    -- what an outcome says of the row that it is read from: a list was laid, and a refusal whose number is no fault's is a packet too many
+    abbrev Says : List A → ℕ → ℕ → Outcome → Type 0
+    Says s left i (listed ps) = Laid s ps left
+    Says s left i (refused n k) = ((t : List A) → row .fault t ≡ n → ⊥) → Over s left i k
 
-    turn : (s : List A) (ps : List Packet) (left i : ℕ) → Fine s → (o : Outcome)
-        → ((qs : List Packet) → Fine (row .rest s) → o ≡ listed qs → Laid (row .rest s) qs left)
+    -- the packet in front added, an outcome says it of one item more
+    says-more : (s : List A) → Fine s → row .fault s ≡ 0 → (left i : ℕ) (o : Outcome) → Says (row .rest s) left (suc i) o
+        → Says s (suc left) i (also (row .packet s) o)
+    unfolding more
+    says-more s f z left i (listed ps) l = more s f z true ps left l
+    says-more s f z left i (refused n k) v = λ h.
+        let w = v h in
+        let e : k ≡ suc i + left = w .3 in
+        (row .packet s ∷ w .0, more s f z false (w .0) left (w .1), ap suc (w .2), omega arith)
+
+    -- a packet, and what the outcome of the others says of them
+    says-turn : (s : List A) (left i : ℕ) → Fine s → (o : Outcome) → (Fine (row .rest s) → Says (row .rest s) left (suc i) o)
         → (d : Bool) → row .ends s ≡ d → (z : Bool) → eqb (row .fault s) 0 ≡ z
-        → cond d (listed []) (cond z (also (row .packet s) o) (refused (row .fault s) i)) ≡ listed ps → Laid s ps (suc left)
-    turn s ps left i f o ih true d z q e = ended s ps (suc left) d e
-    turn s ps left i f o ih false d false q e = never (cc)
-    turn s ps left i f o ih false d true q e =
-        let w = u s f (eqb-true (row .fault s) 0 q) in
-        more s ps left (w .0) (w .1) (w .2) (w .3) o (λ qs. ih qs (later (w .0) (row .rest s) (subst Fine (w .2) f))) e
+        → Says s (suc left) i (cond d (listed []) (cond z (also (row .packet s) o) (refused (row .fault s) i)))
+    says-turn s left i f o ih true d z q = no-item true s (suc left) d
+    says-turn s left i f o ih false d false q = λ h. absurd (h s refl)
+    says-turn s left i f o ih false d true q =
+        let z = eqb-true (row .fault s) 0 q in
+        let w = u s f z in
+        says-more s f z left i o (ih (later (w .0) (row .rest s) (subst Fine (w .2) f)))
+
+    -- what the outcome of a row says of it
+    row-says : (left i : ℕ) (s : List A) → Fine s → Says s left i (packetsIn row left i s)
+    unfolding no-item
+    row-says zero i s f = go (row .ends s) refl
+      where
+        go : (d : Bool) → row .ends s ≡ d → Says s zero i (cond d (listed []) (refused 5 i))
+        go true d = no-item true s zero d
+        go false d = λ h. ([], no-item false s zero d, refl, omega arith)
+    row-says (suc left) i s f =
+        says-turn s left i f (packetsIn row left (suc i) (row .rest s)) (row-says left (suc i) (row .rest s))
+        (row .ends s) refl (eqb (row .fault s) 0) refl
 
     -- what is read was laid
     pub row-laid : (left i : ℕ) (s : List A) (ps : List Packet) → Fine s → packetsIn row left i s ≡ listed ps → Laid s ps left
-    row-laid zero i s ps f e = at-end s ps i (row .ends s) refl e
-    row-laid (suc left) i s ps f e =
-        turn s ps left i f (packetsIn row left (suc i) (row .rest s)) (λ qs f′ q. row-laid left (suc i) (row .rest s) qs f′ q)
-        (row .ends s) refl (eqb (row .fault s) 0) refl e
+    row-laid left i s ps f e = subst (Says s left i) e (row-says left i s f)
+
+    -- where a refusal's number is no fault's, there are as many items as there may be, and no end behind them
+    pub row-over-laid : (left i : ℕ) (s : List A) (n k : ℕ) → Fine s → ((t : List A) → row .fault t ≡ n → ⊥) → packetsIn row left i s ≡ refused n k
+        → Over s left i k
+    row-over-laid left i s n k f h e = subst (Says s left i) e (row-says left i s f) h
 
 -- a refusal's number is not 0
 module _ {A : Type 0} (row : Row A) where

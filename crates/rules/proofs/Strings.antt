@@ -1,7 +1,7 @@
 -- A string is read as it was laid, and what is read was laid so, for some values of the bits that a reader disregards.
 --
--- In order: header bytes, both ways; a packet's bytes, both ways; of a string: `string-read`, `string-laid`, `string-unique`,
--- `string-room`; refusals.
+-- In order: header bytes, both ways; a packet's bytes, both ways; the numbers of faults; of a string: `string-read`, `string-laid`,
+-- `string-unique`, `string-room`, and a packet too many: `string-over-read`, `string-over-laid`.
 -- Assumes nothing.
 use Prim.Native.Nat.{ℕ, suc, _+_, _*_, _/_, _%_, _≤_, _<_}
 use mathlib.Core.Path.{_≡_, refl, sym, ap, ap₂, _∙_, subst}
@@ -17,10 +17,10 @@ use Rattle.rules.specs.Base.{allIs, Bytes, All}
 use Rattle.rules.specs.Systems.{System, stands}
 use Rattle.rules.specs.Packet.{Packet, checkOf}
 use Rattle.rules.specs.Danc.{Item, Good, packetsOf, header, danc, string, bytesOf, stringBytes}
-use Rattle.rules.specs.Numbers.{listed, packetsIn}
+use Rattle.rules.specs.Numbers.{listed, refused, packetsIn}
 use Rattle.rules.specs.Reading.{lineIn, lineOf, flagsOf, packetOfBytes, lineFault, bytesFault, stringFault, stringEnds, stringRow}
-use Rattle.rules.proofs.Basics.{never, neither, second-false, take-bytes, later-bytes}
-use Rattle.rules.proofs.Rows.{Anything, row-read, row-laid}
+use Rattle.rules.proofs.Basics.{never, neither, second-false, chosen, take-bytes, later-bytes}
+use Rattle.rules.proofs.Rows.{Anything, Cut, Over, row-read, row-over-read, row-laid, row-over-laid}
 
 -- ---- header bytes: what is written comes back
 
@@ -285,22 +285,48 @@ string-uncut y room s h z = go (ltb (length s) 7) refl (ltb (length s) (getD s 5
         let w = bytes-laid y s 0 (omega arith) h (ltb-false (length s) (getD s 5 0 + 7) f) z in
         (itemOf 0 s, refl, w .0, w .1)
 
+-- ---- the numbers of faults
+
+-- what holds of 15, 16, and 0 for none, holds of the fault of a packet's bytes
+pub bytes-faults : (P : ℕ → Type 0) → P 0 → P 15 → P 16 → (y : System) (s : List ℕ) → P (bytesFault y s)
+unfolding bytesFault
+bytes-faults P p0 p15 p16 y s =
+    chosen P (not (eqb (getD s (getD s 5 0 + 6) 0) (checkOf (packetOfBytes s) % 256))) 15 (cond (lineFault y (getD s 0 0) (getD s 1 0)) 16 0) p15
+    (chosen P (lineFault y (getD s 0 0) (getD s 1 0)) 16 0 p16 p0)
+
+-- and what holds of 14 too, of the fault of a string's first packet
+pub string-faults : (P : ℕ → Type 0) → P 0 → P 14 → P 15 → P 16 → (y : System) (s : List ℕ) → P (stringFault y s)
+unfolding stringFault
+string-faults P p0 p14 p15 p16 y s =
+    chosen P (ltb (length s) 7 || ltb (length s) (getD s 5 0 + 7)) 14 (bytesFault y s) p14 (bytes-faults P p0 p15 p16 y s)
+
 -- ---- a string
+
+-- a good item is cut off whole, whatever follows
+string-cut : (y : System) → y .last < 2047 → (room : ℕ) → Cut (stringRow y room) danc (λ (x : Item). x .packet) (Good y) Anything
+unfolding stringRow
+string-cut y hm room =
+    record {
+      follows = λ x r w. tt;
+      goes = λ x r w. goes-on y hm x r w room;
+      fault = λ x r w z. string-fine y hm x r w;
+      packet = λ x r w z. bytes-packet y hm x r w;
+      rest = λ x r w z. bytes-rest y hm x r w;
+    }
 
 -- what is laid is read, with an end behind it
 pub string-read : (y : System) → y .last < 2047 → (room left i : ℕ) (xs : List Item) (tail : List ℕ) → All (Good y) xs → length xs ≤ left
     → stringEnds room tail ≡ true → packetsIn (stringRow y room) left i (string xs ++ tail) ≡ listed (packetsOf xs)
 unfolding stringRow
 string-read y hm room left i xs tail g few e =
-    row-read (stringRow y room) danc (λ (x : Item). x .packet) (Good y) Anything
-    (record {
-      follows = λ x r w. tt;
-      goes = λ x r w. goes-on y hm x r w room;
-      fault = λ x r w z. string-fine y hm x r w;
-      packet = λ x r w z. bytes-packet y hm x r w;
-      rest = λ x r w z. bytes-rest y hm x r w;
-    })
-    tail tt e xs left i g few
+    row-read (stringRow y room) danc (λ (x : Item). x .packet) (Good y) Anything (string-cut y hm room) tail tt e xs left i g few
+
+-- behind as many packets as there may be, what is no end is 5
+pub string-over-read : (y : System) → y .last < 2047 → (room i : ℕ) (xs : List Item) (tail : List ℕ) → All (Good y) xs → stringEnds room tail ≡ false
+    → packetsIn (stringRow y room) (length xs) i (string xs ++ tail) ≡ refused 5 (i + length xs)
+unfolding stringRow
+string-over-read y hm room i xs tail g e =
+    row-over-read (stringRow y room) danc (λ (x : Item). x .packet) (Good y) Anything (string-cut y hm room) tail tt e xs i g
 
 -- s is the string of a list with some values of the free bits, and what may stand after a string
 pub record StringOf (y : System) (room left : ℕ) (s : List ℕ) (ps : List Packet) : Type 0 where
@@ -321,6 +347,14 @@ string-laid y room left i s ps h e =
     row-laid (stringRow y room) danc (λ (x : Item). x .packet) (Good y) Bytes (λ x r b. later-bytes (danc x) r b) (string-uncut y room)
     left i s ps h e in
     record { items = l .items; tail = l .tail; packets = l .packets; whole = l .whole; good = l .good; ends = l .ends; few = l .few }
+
+-- where 5 is given, there are as many packets as there may be, and no end behind them
+pub string-over-laid : (y : System) (room left i : ℕ) (s : List ℕ) (k : ℕ) → Bytes s → packetsIn (stringRow y room) left i s ≡ refused 5 k
+    → Over (stringRow y room) danc (λ (x : Item). x .packet) (Good y) s left i k
+unfolding stringRow
+string-over-laid y room left i s k h e =
+    row-over-laid (stringRow y room) danc (λ (x : Item). x .packet) (Good y) Bytes (λ x r b. later-bytes (danc x) r b) (string-uncut y room)
+    left i s 5 k h (string-faults (λ (n : ℕ). n ≡ 5 → ⊥) (λ z. omega arith) (λ z. omega arith) (λ z. omega arith) (λ z. omega arith) y) e
 
 -- from one list only
 pub string-unique : (y : System) → y .last < 2047 → (room left : ℕ) (s : List ℕ) (ps qs : List Packet) → StringOf y room left s ps

@@ -5,7 +5,7 @@
 -- Assumes nothing.
 use Prim.Native.Nat.{ℕ, zero, suc, _+_, _-_, _*_, _/_, _≤_, _<_}
 use mathlib.Core.Path.{_≡_, refl, sym, ap, _∙_, subst}
-use mathlib.Core.Logic.{_⊎_, inl, inr}
+use mathlib.Core.Logic.{_⊎_, inl, inr, ⊎-elim}
 use mathlib.Core.Bool.{Bool, true, false, cond, _||_}
 use mathlib.Core.List.{List, [], _∷_, _++_, map}
 use native.Mathlib.Omega.{arith}
@@ -55,26 +55,40 @@ few-packets xs ps n e h = let l = length-map xs (λ (x : Item). x .packet) in le
 -- ---- refusals
 
 module _ (y : System) (sizes ub : List ℕ) (n i : ℕ) where
-  refused-opened : (o : Opened) → packetsOfOpened y o ≡ refused n i → 1 ≤ n
-  refused-opened (opened s room) e = row-refused (stringRow y room) limit 0 s n i e
-  refused-opened shut e = let z : 13 ≡ n = cc in omega arith
+  -- 13, or the refusal of the packets in packs of 5, or that of the packets in the string that opens
+  abbrev pub Refusal : Type 0
+  Refusal =
+      (n ≡ 13)
+      ⊎ (packetsIn (packRow y) limit 0 (fives ub) ≡ refused n i)
+      ⊎ ((t : List ℕ) × (room : ℕ) × (openLong sizes ub ≡ opened t room) × (packetsIn (stringRow y room) limit 0 t ≡ refused n i))
+
+  refused-opened : (o : Opened) → openLong sizes ub ≡ o → packetsOfOpened y o ≡ refused n i → Refusal
+  refused-opened (opened t room) w e = inr (inr (t, room, w, e))
+  refused-opened shut w e = inl (cc)
 
   refused-cases : (a b c d f : Bool)
       → cond a (unless 13 b (listed []))
       (cond c (unless 13 d (packetsIn (packRow y) limit 0 (fives ub))) (cond f (packetsOfOpened y (openLong sizes ub)) (refused 13 0))) ≡ refused n i
-      → 1 ≤ n
+      → Refusal
   refused-cases true true c d f e = never (cc)
-  refused-cases true false c d f e = let z : 13 ≡ n = cc in omega arith
-  refused-cases false b true true f e = row-refused (packRow y) limit 0 (fives ub) n i e
-  refused-cases false b true false f e = let z : 13 ≡ n = cc in omega arith
-  refused-cases false b false d true e = refused-opened (openLong sizes ub) e
-  refused-cases false b false d false e = let z : 13 ≡ n = cc in omega arith
+  refused-cases true false c d f e = inl (cc)
+  refused-cases false b true true f e = inr (inl e)
+  refused-cases false b true false f e = inl (cc)
+  refused-cases false b false d true e = refused-opened (openLong sizes ub) refl e
+  refused-cases false b false d false e = inl (cc)
+
+  -- user bytes are refused with 13, or as their packets are
+  pub users-refusal : packetsOfUserBytes y sizes ub ≡ refused n i → Refusal
+  unfolding packetsOfUserBytes
+  users-refusal e =
+      refused-cases (eqb (firstByte ub) 0xFF) (allIs 0xFF ub) (eqb (firstByte ub) 0xE1) (inOrder false (fives ub)) (eqb (firstByte ub) 0xE3) e
 
   -- a refusal's number is not 0
   pub users-refused : packetsOfUserBytes y sizes ub ≡ refused n i → 1 ≤ n
-  unfolding packetsOfUserBytes
   users-refused e =
-      refused-cases (eqb (firstByte ub) 0xFF) (allIs 0xFF ub) (eqb (firstByte ub) 0xE1) (inOrder false (fives ub)) (eqb (firstByte ub) 0xE3) e
+      ⊎-elim (λ z. omega arith)
+      (⊎-elim (row-refused (packRow y) limit 0 (fives ub) n i) (λ w. row-refused (stringRow y (w .1)) limit 0 (w .0) n i (w .3)))
+      (users-refusal e)
 
 module _ (y : System) (hm : y .last < 2047) (sizes : List ℕ) (m : ℕ) (roomy : Roomy sizes) (whole : sum sizes ≡ 5 * m) where
   -- ---- what is laid is read
