@@ -1,7 +1,7 @@
 /*
  * Writes the MXF ANC elements of the two frames of a 720/60p sheet, reads one back, and says what is wrong with a damaged one.
  *
- *     rt staticlib vanc
+ *     ./build
  *     cc -I include examples/element.c target/staticlib/libvanc.a -o element
  */
 #include "vanc.h"

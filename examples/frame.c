@@ -1,7 +1,7 @@
 /*
  * Lays two packets into the area of a 1080/60i frame, reads them back, and walks over the same two packets as a string.
  *
- *     rt staticlib vanc
+ *     ./build
  *     cc -I include examples/frame.c target/staticlib/libvanc.a -o frame
  */
 #include "vanc.h"

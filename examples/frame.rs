@@ -1,6 +1,6 @@
 //! Lays two packets into the area of a 1080/60i frame, and reads them back.
 //!
-//!     rt staticlib vanc
+//!     ./build
 //!     rustc -L target/staticlib -l static=vanc examples/frame.rs
 
 /// What laying gives back; see include/vanc.h.

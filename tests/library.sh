@@ -28,7 +28,7 @@ need_archive
 
 nm "$archive" >"$work/symbols"
 python3 tests/header.py include/vanc.h "$work/symbols" TOOLCHAIN crates/refusals/src/lib.rt crates/frame/src/lib.rt \
-  crates/vanc/src/c.rt crates/rules/src/lib.rt crates/mxf/src/lib.rt
+  crates/c_names/src/lib.rt crates/rules/src/lib.rt crates/mxf/src/lib.rt
 
 # ---- the header alone, as C and as C++: by clang too where it is
 
@@ -97,7 +97,7 @@ echo "vanc_refusal_text: the words of every number"
 # ---- the examples
 
 # as_written EXAMPLE EXPECTED: the lines in the example's first comment build it, as they stand, in a folder that has the checkout's folders in it, so
-# that no program is left in the checkout. The first line is what `need_archive` runs; it is not run again, since it would prove the library again.
+# that no program is left in the checkout. The first line is not run: it makes what `need_archive` makes, and the command besides.
 as_written() {
   local lines name folder
   name=$(basename "${1%.*}")
@@ -105,7 +105,7 @@ as_written() {
   mkdir "$folder"
   ln -s "$PWD/include" "$PWD/examples" "$PWD/target" "$folder"
   mapfile -t lines < <(sed -nE '/^$|\*\//q; s,^( \*|//!)     ,,p' "$1")
-  [ "${#lines[@]}" = 2 ] && [ "${lines[0]}" = "rt staticlib vanc" ] || fail "$1: in its comment there is not rt staticlib vanc and one line more"
+  [ "${#lines[@]}" = 2 ] && [ "${lines[0]}" = "./build" ] || fail "$1: in its comment there is not ./build and one line more"
   (cd "$folder" && bash -c "${lines[1]}") || fail "$1: '${lines[1]}' does not build it"
   says "$1, built as written" "$2" "$folder/$name"
 }

@@ -138,8 +138,13 @@ exec qemu-x86_64 -L /usr/x86_64-linux-gnu "\$(dirname "\$(readlink -f "\$0")")/$
 END
 }
 
+# link_archive FILE: the library's archive. The toolchain names it after its crate.
+link_archive() {
+  archive_of c_names && cp target/staticlib/libc_names.a "$1"
+}
+
 need_archive() {
-  unless_made "$archive" vanc archive_of vanc
+  unless_made "$archive" c_names link_archive "$archive"
 }
 
 if [ "$(uname -m)" = x86_64 ]; then

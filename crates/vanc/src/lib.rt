@@ -1,6 +1,4 @@
 // The calls over a whole frame (document 01): `lay` lays a sheet's packets into an area, `read` reads an area to a sheet, `walk` walks a string.
-// The C names of these and of the calls on MXF elements are in the module c, so that one archive has them all.
-mod c;
 mod laying;
 mod reading;
 

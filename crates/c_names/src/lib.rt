@@ -1,5 +1,5 @@
 // The calls under their C names, for programs in C or Rust: include/vanc.h says what each takes and gives back. A slice is two arguments there, its
-// start and its length.
+// start and its length. A room of its own, which the archive is made of: it is proved in seconds, and one archive has all calls.
 use frame::StringByte;
 use mxf::ElementRead;
 use mxf::ElementWritten;
@@ -15,21 +15,21 @@ ghost use Rattle.rules.specs.Walker.{walk as walked};
 pub extern "C" fn vanc_lay(sheet: &[u16], packing: u64, area: &mut [u8]) -> Laid
     ensures { λ r. ⌜ Lays packing (now (sheet .entry)) (now (area .entry)) r (now (area .exit)) ⌝ }
 {
-    crate::laying::lay(sheet, packing, area)
+    vanc::lay(sheet, packing, area)
 }
 
 #[no_mangle]
 pub extern "C" fn vanc_read(system: u64, area: &[u8], sheet: &mut [u16]) -> ReadBack
     ensures { λ r. ⌜ Reads system (now (area .entry)) (now (sheet .entry)) r (now (sheet .exit)) ⌝ }
 {
-    crate::reading::read(system, area, sheet)
+    vanc::read(system, area, sheet)
 }
 
 #[no_mangle]
 pub extern "C" fn vanc_walk(system: u64, string: &[u8], place: u64) -> Step
     ensures { λ r. ⌜ r ≡ walked system (now (string .entry)) place ⌝ }
 {
-    danc::walk(system, string, StringByte(place))
+    vanc::walk(system, string, StringByte(place))
 }
 
 #[no_mangle]
