@@ -8,8 +8,8 @@ use lib.ListN.{length, getD, take, drop}
 use Rattle.rules.specs.Base.{joined}
 use Rattle.rules.specs.Packet.{Packet, words}
 
--- "P is at most 512", and since document 02, A6, "1,275, the most that 8,928 bytes can hold"; "Demands 2 and 3 read 1,275 for 512, and so
--- does 5's place on reading". Quotations that have the limit in them have the new one, in brackets
+-- "P is at most 512." Document 02, A6: "Raise the limit to 1,275, the most that 8,928 bytes can hold. .. Demands 2 and 3 read 1,275 for 512,
+-- and so does 5's place on reading." A quotation that has the limit in it has this number, in brackets
 unfoldable pub limit : ℕ
 limit = 1275
 
