@@ -45,7 +45,7 @@ fn main() {
         let laid = lay(&sheet, packing, &mut area);
         assert_eq!((laid.number, laid.place), (0, 0));
         println!("laid packs {} bytes {}", laid.packs, laid.bytes);
-        let mut back = [0u16; 9956];
+        let mut back = [0u16; 11482];
         let read = read(1, &area, &mut back);
         assert_eq!((read.number, read.place), (0, 0));
         println!("read packing {} packets {} numbers {}", read.packing, read.packets, read.numbers);
