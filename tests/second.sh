@@ -28,7 +28,7 @@ fi
 [ "${1-}" != --long ] || shift
 
 # differs FILE OLD NEW [CASES]: the comparison has to be able to fail, so with one rule changed in a copy of the second implementation it finds a
-# difference. Built in a second without optimisation, with sums that wrap as they do with it; few cases are enough. No time is spent on a smaller case.
+# difference. Built in a second without optimisation, with sums that wrap as they do with it; few cases are enough, and none is made smaller.
 differs() {
   rm -rf "$work/wrong"
   cp -r tests/second "$work/wrong"

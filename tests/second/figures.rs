@@ -138,7 +138,8 @@ fn sizes_of_the_header() {
     assert_eq!(strings, [7_440, LONGEST_STRING, 7_440]);
     assert_eq!((SHEET_MAX, ELEMENT_MAX, ELEMENT_SHEET_MAX), (11_482, 78_307, 68_089));
     let header = include_str!("../../include/vanc.h");
-    for (name, size) in [("VANC_SHEET_MAX", SHEET_MAX), ("VANC_ELEMENT_MAX", ELEMENT_MAX), ("VANC_ELEMENT_SHEET_MAX", ELEMENT_SHEET_MAX)] {
+    let sizes = [("VANC_SHEET_MAX", SHEET_MAX), ("VANC_ELEMENT_MAX", ELEMENT_MAX), ("VANC_ELEMENT_SHEET_MAX", ELEMENT_SHEET_MAX)];
+    for (name, size) in sizes {
         assert!(header.contains(&format!("\n#define {name} {size}\n")), "{name} is not {size}");
     }
 }
