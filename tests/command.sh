@@ -3,8 +3,8 @@
 # error byte for byte, and every file afterwards: bytes, modes, owners, links, and that none is beside them.
 #
 # In order: help; there and back; arguments; names; outputs that are no files; the same file twice; links; modes and owners; files without permission;
-# sheets, areas and elements at their limits; refusals and their words; elements of other programs; streams; calls that fail; runs that are killed,
-# and many at once; scripts.
+# sheets, areas and elements at their limits; a lighting desk's cues; refusals and their words; elements of other programs; streams; calls that fail;
+# runs that are killed, and many at once; scripts.
 set -euo pipefail
 export LC_ALL=C
 umask 022
@@ -196,13 +196,16 @@ wide() {
 
 # ---- what it says
 
+# The packet limit, and the bytes of the longest element that a sheet file gives: 22, and for each packet ten more than it has words.
+most=$(sed -n 's/^LIMIT = //p' "$top/tests/reference.py")
+longest=$((22 + 32768 - 4 - 2 * most + 10 * most))
 refusals=(
   ''
   'the packing is neither 1 (packs of five) nor 2 (long packs)'
   "the sheet's counts do not agree with its length"
   'the system is not 1 (1080/60i), 2 (1080/50i) or 3 (720/60p)'
   "the area is not as long as the system's: 9600 bytes, or 11520 in 1080/50i"
-  'more packets than the limit of 512'
+  "more packets than the limit of $most"
   "the line is past the system's last, or the flags are over 3"
   'it does not begin with 000h 3FFh 3FFh, or has fewer than 7 words'
   'a word from DID to the last user word is not its byte with parity'
@@ -824,7 +827,9 @@ for y in 1 2 3; do
     lists $sheet 0 "$(cat "$made/${size}_$y.text")"
     refused 12 0 $sheet lay 1 $sheet noise_$y.area
     refused 12 0 $sheet lay 2 $sheet noise_$y.area
-    gives film.anc ${size}_$y.anc "written packets 512 bytes $(stat -c %s ${size}_$y.anc)" mxf-write 0 $sheet film.anc
+    bytes=$longest
+    [ $size = full ] || bytes=$((longest - 1))
+    gives film.anc ${size}_$y.anc "written packets $most bytes $bytes" mxf-write 0 $sheet film.anc
   done
   for sheet in {1,65535,65537,65538,65600,131072,twice,over_$y}.sheet; do
     lists $sheet 1 "refused 2 at 0" "${refusals[2]}" "$even"
@@ -871,12 +876,12 @@ for y in 1 2 3; do
   done
   keep
   for element in {full,long,long_less}_$y.anc; do
-    gives back.sheet full_$y.sheet "read packets 512 numbers 32768" mxf-read $y 0 $element back.sheet
+    gives back.sheet full_$y.sheet "read packets $most numbers 32768" mxf-read $y 0 $element back.sheet
   done
-  gives full_$y.sheet less_$y.sheet "read packets 512 numbers 32767" mxf-read $y 0 less_$y.anc full_$y.sheet
+  gives full_$y.sheet less_$y.sheet "read packets $most numbers 32767" mxf-read $y 0 less_$y.anc full_$y.sheet
   for sheet in back.sheet full_$y.sheet; do
     second="$sheet: $even" refused 17 0 over_$y.anc mxf-read $y 0 over_$y.anc $sheet
-    refused 5 512 limit_$y.anc mxf-read $y 0 limit_$y.anc $sheet
+    refused 5 $most limit_$y.anc mxf-read $y 0 limit_$y.anc $sheet
     for element in long_over_$y.anc 262145.anc 524288.anc; do
       wrong "$element: longer than the 262144 bytes that are read" mxf-read $y 0 $element $sheet
     done
@@ -885,9 +890,18 @@ for y in 1 2 3; do
   done
 done
 fresh "$made/full_3.anc" "$made/other_3.sheet"
-gives back.sheet other_3.sheet "read packets 512 numbers 32768" mxf-read 3 1 full_3.anc back.sheet
-gives back.anc full_3.anc "written packets 512 bytes 36882" mxf-write 1 other_3.sheet back.anc
+gives back.sheet other_3.sheet "read packets $most numbers 32768" mxf-read 3 1 full_3.anc back.sheet
+gives back.anc full_3.anc "written packets $most bytes $longest" mxf-write 1 other_3.sheet back.anc
 expect 0 "written packets 0 bytes 22" "" mxf-write 0 other_3.sheet back.anc
+
+# As many packets as the limit fit system 2 in long packs: with three user bytes, as in fill_2_2, or fewer and fill behind them.
+for user in 0 1 2; do
+  tail=tail_$user
+  fresh "$made/$tail".{sheet,area} "$made/noise_2.area"
+  gives noise_2.area $tail.area "laid packs 144 bytes $((7 * most + user))" lay 2 $tail.sheet noise_2.area
+  gives back.sheet $tail.sheet "read packing 2 packets $most numbers $((4 + 9 * most + user))" read 2 $tail.area back.sheet
+  refused 12 0 $tail.sheet lay 1 $tail.sheet noise_2.area
+done
 
 # Inputs without an end are read as far as their limit, and so is a file of 4 GiB.
 fresh_jobs
@@ -918,6 +932,33 @@ for writer in "${writers[@]}"; do
   works $writer frame.area "" <(cat "$from")
   cat "$from" >fifo &
   works $writer frame.area "" fifo
+done
+
+# ---- 900 cues of a few bytes, as a lighting desk sends them
+
+# Long packs take them with up to two user bytes in 1080/50i, with one in the others, and packs of five do not; an element takes them all.
+for words in "1 1 117" "2 1 none" "2 2 130" "3 2 none" "1 3 117" "2 3 none"; do
+  read -r dc y packs <<<"$words"
+  cues=cues_${dc}_$y string=$((900 * (dc + 7))) numbers=$((4 + 900 * (dc + 9)))
+  fresh "$made/$cues".{sheet,anc} "$made/noise_$y.area"
+  lists $cues.sheet 0 "$(cat "$made/$cues.text")"
+  gives new.anc $cues.anc "written packets 900 bytes $((22 + 900 * (dc + 17)))" mxf-write 0 $cues.sheet new.anc
+  gives back.sheet $cues.sheet "read packets 900 numbers $numbers" mxf-read $y 0 $cues.anc back.sheet
+  refused 12 0 $cues.sheet lay 1 $cues.sheet noise_$y.area
+  if [ $packs = none ]; then
+    refused 12 0 $cues.sheet lay 2 $cues.sheet noise_$y.area
+    continue
+  fi
+  gives noise_$y.area "$made/$cues.area" "laid packs $packs bytes $string" lay 2 $cues.sheet noise_$y.area
+  cp "$made/$cues.area" .
+  keep
+  gives back.sheet $cues.sheet "read packing 2 packets 900 numbers $numbers" read $y $cues.area back.sheet
+  # What was read goes on to an element, and what comes from that to a frame.
+  expect 0 "read packing 2 packets 900 numbers $numbers" "" read $y $cues.area back.sheet
+  expect 0 "written packets 900 bytes $((22 + 900 * (dc + 17)))" "" mxf-write 0 back.sheet new.anc
+  expect 0 "read packets 900 numbers $numbers" "" mxf-read $y 0 new.anc again.sheet
+  expect 0 "laid packs $packs bytes $string" "" lay 2 again.sheet noise_$y.area
+  cmp $cues.sheet again.sheet && cmp $cues.area noise_$y.area || fail "other cues come back"
 done
 
 # ---- refusals: each number, with its words and the place that is meant
@@ -977,7 +1018,8 @@ cp "$made/spill_1_1.sheet" .
 cp "$made/full_1.sheet" late.sheet
 poke late.sheet 65535 '\000'
 keep
-lists late.sheet 1 "refused 10 at 511" "packet 511 (line 1114): ${refusals[10]}"
+last=$((most - 1))
+lists late.sheet 1 "refused 10 at $last" "packet $last (line $((1125 - last % 100))): ${refusals[10]}"
 refused 12 0 spill_1_1.sheet lay 1 spill_1_1.sheet frame.area
 for output in new.file frame.area nowhere/new.file; do
   refused 4 0 laid_1.area read 2 laid_1.area $output
@@ -987,7 +1029,7 @@ for output in new.file frame.area nowhere/new.file; do
   refused 3 0 SYSTEM mxf-read 4 0 film.sheet $output
   refused 3 0 SYSTEM read 4 film.sheet $output
 done
-for words in "5 512" "13 0" "14 1" "15 1" "16 1"; do
+for words in "13 0" "14 1" "15 1" "16 1"; do
   for packing in 1 2; do
     area=${words% *}_$packing.area
     where=
@@ -997,6 +1039,17 @@ for words in "5 512" "13 0" "14 1" "15 1" "16 1"; do
     for output in new.file frame.area nowhere/new.file; do
       refused $words "$area$where" read 1 $area $output
     done
+  done
+done
+# 5 comes in system 2 and long packs alone.
+for words in 5_{0,1,2}": $most" {14,15,16}_late": $last"; do
+  area=${words%: *}.area number=${words%_*} place=${words#*: }
+  where=": packet $place"
+  [ $number != 5 ] || where=
+  cp "$made/$area" .
+  keep
+  for output in new.file frame.area nowhere/new.file; do
+    refused $number $place "$area$where" read 2 $area $output
   done
 done
 for byte in 0 1 15 16; do
@@ -1337,8 +1390,8 @@ sees untouched
 fresh "$made/full_1.sheet" "$made/full_1.anc" "$made/fill_2_2.area" "$made/fill_2_2.sheet"
 fault=short
 lists full_1.sheet 0 "$(cat "$made/full_1.text")"
-gives new.file full_1.anc "written packets 512 bytes 36882" mxf-write 0 full_1.sheet new.file
-gives new.file full_1.sheet "read packets 512 numbers 32768" mxf-read 1 0 full_1.anc new.file
+gives new.file full_1.anc "written packets $most bytes $longest" mxf-write 0 full_1.sheet new.file
+gives new.file full_1.sheet "read packets $most numbers 32768" mxf-read 1 0 full_1.anc new.file
 gives new.file fill_2_2.sheet "$(cat "$made/fill_2_2.read")" read 2 fill_2_2.area new.file
 fault=
 

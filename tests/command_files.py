@@ -1,20 +1,24 @@
 """command_files.py FOLDER: the files that tests/command.sh works on, at the limits of what the command takes, and what has to come out of each.
 
-Y is the system, K the packing. Sheets: full_Y (65,536 bytes, of 512 packets, with the longest text that is listed), less_Y and over_Y (one
-number fewer, one more), fill_K_Y (512 packets that fill the frame), spill_K_Y (one byte or one pack more). Areas: noise_Y, and fill_K_Y, which is
-noise_Y with fill_K_Y.sheet laid. Elements: full_Y, less_Y and over_Y of these sheets; long_Y (262,144 bytes, the packets of full_Y and padding),
-long_less_Y and long_over_Y (a byte of padding less, more), limit_Y (513 packets). other_3.sheet is full_3 with the other FI.
-Texts: full_Y and less_Y, their listings.
+Y is the system, K the packing. Sheets: full_Y (65,536 bytes, of as many packets as the limit, with the longest text that is listed), less_Y and
+over_Y (one number fewer, one more), fill_K_Y (many small packets that fill the frame; in system 2, packing 2 as many as the limit), spill_K_Y (one
+byte or one pack more). Areas: noise_Y, and fill_K_Y, which is noise_Y with fill_K_Y.sheet laid. Elements: full_Y, less_Y and over_Y of these sheets;
+long_Y (262,144 bytes, the packets of full_Y and padding), long_less_Y and long_over_Y (a byte of padding less, more), limit_Y (a packet over the
+limit). other_3.sheet is full_3 with the other FI. Texts: full_Y and less_Y, their listings.
+
+tail_U: as many packets as the limit in system 2, packing 2, of which U have a user byte: sheet, and noise_2 with it laid; 5_U.area has one byte of
+the 3 - U behind them that is not fill. cues_D_Y: 900 cues of a lighting desk with DC D: sheet, listing and element, and noise_Y with them laid in
+packing 2, where they have room.
 
 Of the samples: laid_K.area, frame.area with cue.sheet laid; film.anc, film.sheet as an element with FI 0; film_0.sheet, that one read.
 
 Refused, N being the number: N_WORD.sheet, and N_K.area, which is not read. WORD says where the packet at fault stands: the location that it has
-names a line (line), or none (none), or it has no location (beyond)."""
+names a line (line), or none (none), or it has no location (beyond). N_late.area is tail_0.area with its last packet damaged."""
 import os
 import random
 import sys
 
-from reference import LAST, area_size, lay, listing, pack, packet, packs_5, read, sheet, sheet_tests, spread, user_bytes
+from reference import LAST, LIMIT, area_size, lay, listing, pack, packet, packs_5, read, sheet, sheet_tests, spread, user_bytes
 
 folder = sys.argv[1]
 samples = os.path.join(os.path.dirname(os.path.abspath(__file__)), "..", "samples")
@@ -65,12 +69,14 @@ def element(system, packets, padding=0):
 
 
 def full(system):
-    """255 packets with a DC of three digits is what 65,536 bytes leave room for."""
-    for name, first in (("full", 186), ("less", 185), ("over", 187)):
-        sizes = [first] + [100] * 254 + [10] * 257
+    """As many DCs of three digits as 65,536 bytes leave room for, the others of two."""
+    user = 32768 - 4 - 9 * LIMIT
+    three, rest = divmod(user - 10 * LIMIT, 90)
+    for name, more in (("full", 0), ("less", -1), ("over", 1)):
+        sizes = [100 + rest + more] + [100] * (three - 1) + [10] * (LIMIT - three)
         packets = list(packets_of(system, sizes, lambda k: k % 2 * 2))
         s = sheet_of(system, packets)
-        assert len(s) == 32582 + first
+        assert len(s) == 32768 + more
         save(f"{name}_{system}.sheet", pack(s))
         save(f"{name}_{system}.anc", element(system, packets))
         if name == "full":
@@ -84,12 +90,12 @@ def full(system):
 
 
 def fill(system, packing):
+    """In packing 1 packets of two packs, but for twenty of three; in packing 2 as many as there can be, with a user byte in the first few."""
     if packing == 1:
-        more = {1: 24, 2: 336, 3: 24}[system]
-        sizes = [8] * more + [4] * (512 - more)
+        sizes = [4] * 20 + [0] * ({1: 1560, 2: 1872, 3: 1560}[system] // 2 - 30)
     else:
-        user = {1: 7440, 2: 8928, 3: 7440}[system] - 7 * 512
-        sizes = [user // 512 + (k < user % 512) for k in range(512)]
+        count, user = divmod({1: 7440, 2: 8928, 3: 7440}[system], 7)
+        sizes = [1] * user + [0] * (count - user)
     packets = list(packets_of(system, sizes, lambda k: k % 4, first_line=0))
     s = sheet_of(system, packets)
     save(f"fill_{packing}_{system}.sheet", pack(s))
@@ -98,11 +104,50 @@ def fill(system, packing):
     assert (number, packs) == (0, [{1: 1560, 2: 1872, 3: 1560}, {1: 120, 2: 144, 3: 120}][packing - 1][system])
     save(f"fill_{packing}_{system}.area", area)
     save(f"fill_{packing}_{system}.laid", f"laid packs {packs} bytes {string}\n".encode())
-    save(f"fill_{packing}_{system}.read", f"read packing {packing} packets 512 numbers {len(s)}\n".encode())
+    save(f"fill_{packing}_{system}.read", f"read packing {packing} packets {len(packets)} numbers {len(s)}\n".encode())
     sizes[-1] += 1
     spilled = sheet_of(system, list(packets_of(system, sizes, lambda k: 0)))
     assert lay(packing, spilled, area)[0] == 12
     save(f"spill_{packing}_{system}.sheet", pack(spilled))
+
+
+def tails():
+    """The last bytes of the last long pack are the last of the user bytes."""
+    for user in (0, 1, 2):
+        packets = list(packets_of(2, [0] * (LIMIT - user) + [1] * user, lambda k: k % 4, first_line=0))
+        s, (bytes_laid, packs) = sheet_of(2, packets), user_bytes(2, 2, packets)
+        assert packs == 144 and bytes_laid[user - 3 :] == [0xFF] * (3 - user)
+        area = bytearray(noise[2])
+        spread(2, bytes_laid, area)
+        assert read(2, area, [0] * 32768) == (0, 0, 2, LIMIT, len(s))
+        save(f"tail_{user}.sheet", pack(s))
+        save(f"tail_{user}.area", area)
+        refused_tail(5, LIMIT, user, bytes_laid, {user - 3: 0xFE})
+    # The last packet's header, DC and CS, with the three bytes behind it.
+    bytes_laid, _ = user_bytes(2, 2, list(packets_of(2, [0] * LIMIT, lambda k: k % 4, first_line=0)))
+    for number, changes in ((14, {-5: 200}), (15, {-4: bytes_laid[-4] ^ 1}), (16, {-10: 0x80, -9: bytes_laid[-9] & 0xF0})):
+        refused_tail(number, LIMIT - 1, "late", bytes_laid, changes)
+
+
+def refused_tail(number, place, name, bytes_laid, changes):
+    area, changed = bytearray(noise[2]), list(bytes_laid)
+    for at, byte in changes.items():
+        changed[at] = byte
+    spread(2, changed, area)
+    assert read(2, area, [0] * 32768)[:2] == (number, place), (number, name)
+    save(f"{number}_{name}.area", area)
+
+
+def cues(system, dc):
+    """Each on a line, so that an element takes them, with FI 0."""
+    packets = list(packets_of(system, [dc] * 900, lambda k: k % 2 * 2))
+    s, name = sheet_of(system, packets), f"cues_{dc}_{system}"
+    save(f"{name}.sheet", pack(s))
+    save(f"{name}.text", listing(pack(s)).encode())
+    save(f"{name}.anc", element(system, packets))
+    area = bytearray(noise[system])
+    if lay(2, s, area)[0] == 0:
+        save(f"{name}.area", area)
 
 
 def of_samples():
@@ -145,7 +190,7 @@ def refused_sheets():
     for system in (0, 4, 65535):
         refused(3, 0, f"system_{system}", [1, system] + cue[2:])
     for system in LAST:
-        refused(5, 0, f"many_{system}", sheet_of(system, list(packets_of(system, [0] * 513, lambda k: 0))))
+        refused(5, 0, f"many_{system}", sheet_of(system, list(packets_of(system, [0] * (LIMIT + 1), lambda k: 0))))
         refused(6, 2, f"line_{system}", sheet(system, locations[:1] + [(750, 3), (LAST[system] + 1, 2)], [w for words in each for w in words]))
     refused(6, 1, "flags", sheet(1, [locations[0], (561, 4), locations[2]], [w for words in each for w in words]))
     refused(6, 2, "zero", sheet(1, locations[:2] + [(0, 4)], [w for words in each for w in words]))
@@ -184,9 +229,6 @@ def refused_areas():
     refused(14, 1, 2, changed(long, 3 + 9 + 5, 200))
     refused(15, 1, 2, changed(long, 3 + 9 + 6, long[3 + 9 + 6] ^ 1))
     refused(16, 1, 2, changed(changed(long, 3 + 9, 0xFF), 3 + 10, packs[18] | 0x0F))
-    many = list(packets_of(1, [0] * 513, lambda k: 0))
-    refused(5, 512, 1, [b for p in packs_5(many) for b in p])
-    refused(5, 512, 2, user_bytes(2, 1, many)[0])
 
 
 noise = {system: chance.randbytes(area_size(system)) for system in LAST}
@@ -195,7 +237,10 @@ for system in LAST:
     full(system)
     fill(system, 1)
     fill(system, 2)
-    save(f"limit_{system}.anc", element(system, list(packets_of(system, [0] * 513, lambda k: 0))))
+    save(f"limit_{system}.anc", element(system, list(packets_of(system, [0] * (LIMIT + 1), lambda k: 0))))
+for system, dc in ((1, 1), (1, 2), (2, 2), (2, 3), (3, 1), (3, 2)):
+    cues(system, dc)
+tails()
 of_samples()
 refused_sheets()
 refused_areas()

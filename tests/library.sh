@@ -73,7 +73,7 @@ words="0 done
 2 the sheet's counts do not agree with its length
 3 the system is not 1 (1080/60i), 2 (1080/50i) or 3 (720/60p)
 4 the area is not as long as the system's: 9600 bytes, or 11520 in 1080/50i
-5 more packets than the limit of 512
+5 more packets than the limit of 1275
 6 the line is past the system's last, or the flags are over 3
 7 it does not begin with 000h 3FFh 3FFh, or has fewer than 7 words
 8 a word from DID to the last user word is not its byte with parity

@@ -6,7 +6,7 @@ import pathlib
 import random
 import struct
 
-from reference import LAST, listing, pack, packet, sheet
+from reference import LAST, LIMIT, listing, pack, packet, sheet
 
 HOME = pathlib.Path(__file__).resolve().parent.parent / "crates" / "lister_cases"
 P = packet(0x45, 0x01, [0x10, 0x80])
@@ -28,6 +28,8 @@ def worked():
     yield pack(sheet(2, [], []))
     yield pack(sheet(3, [(750, 0)], P))
     yield pack(sheet(1, [(1, 1)] * 512, E * 512))
+    yield pack(sheet(1, [(1, 0)] * 513, E * 513))  # over the limit before request A6
+    yield pack(sheet(2, [(k % 1126, k % 4) for k in range(LIMIT)], E * LIMIT))
     yield pack(sheet(2, [(7, 2)] * 124, packet(0, 0x80, [7] * 255) * 124))
     yield pack(sheet(1, [(0, 0)] * 24, packet(0x61, 1, [1] * 255) * 23 + packet(0x61, 1, [2] * 160)))
     # 2
@@ -47,16 +49,17 @@ def worked():
     # 3
     yield pack(sheet(0, [(9, 0)], P))
     yield pack(sheet(4, [(2000, 9)], P))
-    yield pack(sheet(65535, [(1, 0)] * 513, E * 513))
+    yield pack(sheet(65535, [(1, 0)] * (LIMIT + 1), []))
     # 5
-    yield pack(sheet(1, [(1, 0)] * 513, E * 513))
-    yield pack(sheet(2, [(2000, 0)] * 513, []))
-    yield pack(sheet(3, [(1, 0)] * 600, flipped(P, 0, 0)))
+    yield pack(sheet(1, [(1, 0)] * (LIMIT + 1), E * (LIMIT + 1)))
+    yield pack(sheet(2, [(2000, 0)] * (LIMIT + 1), []))
+    yield pack(sheet(3, [(1, 0)] * 2048, flipped(P, 0, 0)))
     # 6
     yield pack(sheet(3, [(751, 0)], P))
     yield pack(sheet(1, [(1125, 3), (1126, 0)], P))
     yield pack(sheet(1, [(1, 0), (1, 4), (1126, 0)], flipped(P, 8, 0)))
     yield pack(sheet(2, [(0, 65535)], []))
+    yield pack(sheet(1, [(1125, 3)] * (LIMIT - 1) + [(1126, 3)], []))
     # 7
     yield pack(sheet(1, [(9, 0)], P[:6]))
     yield pack(sheet(1, [(9, 0), (9, 0)], P + flipped(flipped(P, 1, 9), 4, 0)))
@@ -76,10 +79,12 @@ def worked():
     yield pack(sheet(1, [(9, 0)], flipped(P, 8, 9)))
     yield pack(sheet(1, [], flipped(P, 8, 0)))
     yield pack(sheet(1, [(9, 0)], flipped(P, 8, 12)))
+    yield pack(sheet(1, [], E * (LIMIT + 1) + flipped(E, 6, 0)))  # a packet behind as many as the limit, and no location
     # 11
     yield pack(sheet(1, [], P))
     yield pack(sheet(1, [(9, 0), (9, 0)], P))
     yield pack(sheet(3, [(9, 0)], P + P))
+    yield pack(sheet(3, [(9, 0)] * LIMIT, P))
 
 
 def random_sheet(r):
@@ -102,7 +107,7 @@ def damaged(r):
         if kind == 0:
             s[at] ^= 1 << r.randrange(16)
         elif kind == 1:
-            s[at] = r.choice([0, 1, 3, 4, 0x3FF, 513, 750, 751, 1125, 1126, 65535])
+            s[at] = r.choice([0, 1, 3, 4, 0x3FF, LIMIT + 1, 750, 751, 1125, 1126, 65535])
         elif kind == 2 and len(s) > 1:
             del s[at]
         elif kind == 3:

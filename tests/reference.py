@@ -3,6 +3,8 @@ what has to come out."""
 import struct
 
 LAST = {1: 1125, 2: 1125, 3: 750}
+# Request A6; document 01 had 512 wherever the packet limit stands.
+LIMIT = 1275
 
 
 def word(byte):
@@ -48,7 +50,7 @@ def sheet_tests(s):
         return 2, 0, None
     if s[1] not in LAST:
         return 3, 0, None
-    if count > 512:
+    if count > LIMIT:
         return 5, 0, None
     locations = [(s[3 + 2 * k], s[4 + 2 * k]) for k in range(count)]
     for k, (line, flags) in enumerate(locations):
@@ -217,8 +219,8 @@ def read_5(system, user):
         raise Refused(13, 0)
     found = []
     for k, g in enumerate(groups):
-        if k == 512:
-            raise Refused(5, 512)
+        if k == LIMIT:
+            raise Refused(5, LIMIT)
         carried = [b for p in g[1:] for b in p[1:]]
         dc = carried[2]
         if len(g) - 1 != 1 + -(-dc // 4) or set(carried[dc + 4 :]) - {0xFF}:
@@ -248,8 +250,8 @@ def read_long(system, user):
         if len(rest) < room and not set(rest) - {0xFF}:
             return found
         k = len(found)
-        if k == 512:
-            raise Refused(5, 512)
+        if k == LIMIT:
+            raise Refused(5, LIMIT)
         if len(rest) < 7 or len(rest) < rest[5] + 7:
             raise Refused(14, k)
         found.append(judged(system, k, rest[: rest[5] + 7]))

@@ -9,7 +9,7 @@ import pathlib
 import random
 import struct
 
-from reference import LAST, area_size, danc, lay, packet, read, runs, sheet, sheet_tests, spread, user_bytes
+from reference import LAST, LIMIT, area_size, danc, lay, packet, read, runs, sheet, sheet_tests, spread, user_bytes
 
 HOME = pathlib.Path(__file__).resolve().parent.parent / "crates" / "vanc_cases"
 P = packet(0x45, 0x01, [0x10, 0x80])
@@ -94,7 +94,7 @@ def worked():
     yield 2, [], 9600, 7, [], 1, 100
     yield 1, of([2], system=4), 9600, 7, [], 0, 100
     yield 1, of([2], system=0, line=2000), 9599, 7, [], 4, 100
-    yield 1, of([0] * 513), 9599, 7, [], 1, 100
+    yield 1, sheet(1, [(9, 0)] * (LIMIT + 1), []), 9599, 7, [], 1, 100
     yield 1, of([2], line=2000), 11520, 7, [], 2, 100
     yield 1, of([2], system=2), 9600, 7, [], 2, 100
     # 9 and 11, and the area is as it was
@@ -135,12 +135,66 @@ def worked():
         damages += [(places[packs] + 1, 1)]
         yield sound(2, lone, damages)
     yield 0, [], 9600, 0xFF, [(3, 0xFF ^ 0xE3), (4, 1)], 1, 20  # E3h with END 0 and only fill: 14 at 0
-    # a 513th packet, cut or not: 5
+    # 512 packets, and 513, which were over the limit before request A6; then with DC and CS of packet 507 changed: 14
     for packing in (1, 2):
         for count in (512, 513):
             yield made(packing, 1, [(9, 0, packet(0x45, 0x01, []))] * count)
     user, _ = user_bytes(2, 1, [(9, 0, packet(0x45, 0x01, []))] * 513)
     yield made_of(1, user[:-40] + [0x80] * 3 + user[-37:])
+    yield from at_the_limit()
+    yield from behind_the_last()
+    yield from late()
+
+
+def at_the_limit():
+    """As many of the smallest packets as a frame holds, and one more; in system 2, packing 2 as many as the limit, with up to three user bytes."""
+    for packing, system, most in ((1, 1, 780), (1, 2, 936), (2, 1, 1062), (2, 3, 1062)):
+        yield sound(packing, of([0] * most, system))
+        yield sound(packing, of([0] * (most + 1), system))
+    yield sound(2, of([0] * LIMIT, 2))
+    yield sound(2, of([1] * 3 + [0] * (LIMIT - 3), 2))
+    yield sound(2, of([1] * 4 + [0] * (LIMIT - 4), 2))
+    yield sound(2, of([0] * (LIMIT + 1), 2))
+    # 5 comes before 6 to 12
+    for packing, system in ((1, 1), (2, 3)):
+        yield sound(packing, sheet(system, [(2000, 9)] * (LIMIT + 1), P[:8]), room=100)
+
+
+def zeros(system, changes, room=12000):
+    """An area of long packs whose string bytes are 00h, but for changes: pairs of a string byte and what it is. Seven such bytes are a packet without
+    a line."""
+    blocks = list(runs(system))
+    damages = [(start, 0xE3) for start, _ in blocks] + [(start + 1, 1) for start, _ in blocks[:-1]]
+    string = [start + i for start, size in blocks for i in range(3, size)]
+    return 0, [], area_size(system), 0, damages + [(string[at], byte) for at, byte in changes], system, room
+
+
+def longer(k, user, shift=0):
+    """Packet k with so many user bytes of 00h more, where those before it have `shift`: its DC and its CS."""
+    return [(7 * k + shift + 5, user), (7 * k + shift + 6 + user, user)]
+
+
+def behind_the_last():
+    """As many packets as the limit, some with user bytes, and each byte behind them fill or not: the end, or 5. In systems 1 and 3 it is 14."""
+    lists = [[], longer(0, 1), longer(LIMIT - 1, 1), longer(1024, 2), longer(7, 1) + longer(LIMIT - 1, 1, 1), longer(LIMIT - 2, 3)]
+    for changes, left in zip(lists, (3, 2, 2, 1, 1, 0)):
+        for which in range(2**left):
+            yield zeros(2, changes + [(8927 - i, 0xFF) for i in range(left) if which >> i & 1])
+    for room in (11481, 11482):
+        yield zeros(2, lists[-1], room)
+    for system in (1, 3):
+        for fill in (6, 5, 0):
+            yield zeros(system, [(7439 - i, 0xFF) for i in range(fill)])
+
+
+def late():
+    """Damaged packets about 1,024 and later, before bytes that are 5 or the end."""
+    for k in (1023, 1024, 1025, LIMIT - 1):
+        for at, byte in ((5, 200), (6, 1), (0, 0x80)):
+            yield zeros(2, [(7 * k + at, byte)] + [(8927 - i, 0xFF) for i in range(3)])
+    yield zeros(2, [(7 * (LIMIT - 1) + 6, 1)])
+    yield zeros(1, [(7 * 1061 + 5, 1)])
+    yield zeros(3, [(7 * 1061, 0x80)])
 
 
 def made_of(system, user):
@@ -158,7 +212,7 @@ def random_list(r, system, most):
     dcs, total = [], 0
     while True:
         dc = r.choice([0, 1, 2, 3, 4, 5, 20, 60, 254, 255, r.randrange(256)])
-        if total + dc + 7 > most or len(dcs) == 512:
+        if total + dc + 7 > most or len(dcs) == LIMIT:
             return dcs
         total += dc + 7
         dcs.append(dc)

@@ -6,7 +6,7 @@ answer it is (0 for the last that there is); then the same of steps from places 
 import pathlib
 import random
 
-from reference import danc, packet, walk
+from reference import LIMIT, danc, packet, walk
 
 HOME = pathlib.Path(__file__).resolve().parent.parent / "crates" / "walker_cases"
 LAST_ANSWER = 2**64 - 1
@@ -64,6 +64,7 @@ def strings(rng):
         yield rng.randrange(1, 4), whole[: rng.randrange(len(whole) + 1)]
         i = rng.randrange(len(whole))
         yield rng.randrange(1, 4), [*whole[:i], rng.randrange(256), *whole[i + 1 :]]
+    yield 2, [b for _ in range(LIMIT + 1) for b in item(rng, 0)]  # the walker has no limit of packets
 
 
 def main():

@@ -1,7 +1,7 @@
 //! Cases: what a call is given, and how the calls are shared out.
 
 use crate::random::Random;
-use crate::rules::{self, system, System};
+use crate::rules::{self, system, System, FORMER_LIMIT, MOST_PACKETS};
 use crate::{element, element_read_cases, element_write_cases, lay_cases, read_cases, walk_cases};
 
 /// What a call is given.
@@ -53,7 +53,7 @@ impl Call {
         }
     }
 
-    /// The answer by document 01 and request A1.
+    /// The answer by document 01 and the requests A1 and A6.
     pub fn expected(&self) -> Answer {
         let mut answer = Answer { fields: [0; 5], changed: 0, bytes: Vec::new(), buffer: Vec::new() };
         match self {
@@ -97,13 +97,15 @@ pub fn system_and_fi(random: &mut Random) -> (System, bool) {
 }
 
 /// A name for the size of an element: how full an area would be is nothing to it.
-pub fn how_many(packets: usize) -> &'static str {
+pub fn how_many(packets: usize) -> String {
     match packets {
-        0 => "no packet",
-        1..=3 => "1 to 3 packets",
-        4..=40 => "4 to 40 packets",
-        41..=512 => "41 to 512 packets",
-        _ => "over 512 packets",
+        0 => "no packet".to_string(),
+        1..=3 => "1 to 3 packets".to_string(),
+        4..=40 => "4 to 40 packets".to_string(),
+        41..=FORMER_LIMIT => format!("41 to {FORMER_LIMIT} packets"),
+        MOST_PACKETS => format!("{MOST_PACKETS} packets"),
+        _ if packets > MOST_PACKETS => format!("over {MOST_PACKETS} packets"),
+        _ => format!("{} to {} packets", FORMER_LIMIT + 1, MOST_PACKETS - 1),
     }
 }
 

@@ -34,7 +34,11 @@ const COLOUR: u8 = 5;
 /// ST 436-1, table 7: "The Payload Array Element Length shall be 1."
 const ARRAY_ELEMENT: u32 = 1;
 /// The most that section C's count can say.
-const MOST_WORDS: usize = 65_535;
+pub const MOST_WORDS: usize = 65_535;
+/// Room for the element of every sheet, VANC_ELEMENT_MAX of vanc.h: a packet's structure has ten bytes more than the packet has words.
+pub const ELEMENT_MAX: usize = HEAD + MOST_WORDS + 10 * MOST_PACKETS;
+/// Room for the sheet of every element, VANC_ELEMENT_SHEET_MAX of vanc.h.
+pub const ELEMENT_SHEET_MAX: usize = 4 + 2 * MOST_PACKETS + MOST_WORDS;
 
 /// "Wrapping is VANC frame for 1080, VANC progressive frame for 720, no other."
 pub fn wrapping(system: &System) -> u8 {

@@ -2,7 +2,7 @@
 
 use crate::element::{HEAD, KEY};
 use crate::random::Random;
-use crate::rules::System;
+use crate::rules::{System, MOST_PACKETS};
 
 /// Where a structure's fields start, and its array.
 const LINE: usize = 0;
@@ -187,11 +187,11 @@ pub fn put_fault(random: &mut Random, element: &mut Vec<u8>) -> &'static str {
             return "length";
         }
         3 => {
-            let (n, any) = (two(element, 20), random.number());
+            let (n, any, most) = (two(element, 20), random.number(), MOST_PACKETS as u16);
             put_two(
                 element,
                 20,
-                random.pick(&[n.wrapping_add(1), n.wrapping_add(1), n.wrapping_sub(1), n ^ 0x100, 0, 512, 513, 65_535, any]),
+                random.pick(&[n.wrapping_add(1), n.wrapping_add(1), n.wrapping_sub(1), n ^ 0x100, 0, most, most + 1, 65_535, any]),
             );
             "N"
         }

@@ -1,16 +1,14 @@
 //! Cases for reading an element: written by the rules, padded, over the limits, or as they come; and then damaged at every level.
 
 use crate::cases::{how_many, system_and_fi, Call, Case, UNKNOWN};
-use crate::element::{element, read, structure, wrapping, HEAD};
+use crate::element::{element, read, structure, wrapping, ELEMENT_SHEET_MAX, HEAD, MOST_WORDS};
 use crate::element_faults::{mend_length, pad, put_fault, put_structure_fault};
-use crate::lists::{list, packet};
+use crate::lists::{dcs_of_words, list, packet};
 use crate::packet::Packet;
 use crate::random::Random;
 use crate::read_cases::buffer_near;
-use crate::rules::{System, MOST_PACKETS};
+use crate::rules::{System, FORMER_LIMIT, MOST_PACKETS};
 
-/// Room for the sheet of every element, as vanc.h says.
-const MOST_NUMBERS: usize = 4 + 2 * 512 + 65_535;
 /// The most that a length in three bytes says.
 const LONGEST_VALUE: usize = 0xFF_FFFF;
 
@@ -41,9 +39,9 @@ pub fn make(random: &mut Random) -> Case {
         let unknown = random.pick(&UNKNOWN);
         system = random.pick(&[1, 2, 3, unknown, unknown]);
     }
-    let back = read(system, fi, &draft.element, &vec![0; MOST_NUMBERS]);
+    let back = read(system, fi, &draft.element, &vec![0; ELEMENT_SHEET_MAX]);
     let exact = if back.number == 0 { back.numbers as usize } else { draft.numbers };
-    let buffer = buffer_near(random, exact, MOST_NUMBERS);
+    let buffer = buffer_near(random, exact, ELEMENT_SHEET_MAX);
     Case { kind: format!("mxf read, {}", draft.kind), call: Call::MxfRead { system, fi, element: draft.element, buffer } }
 }
 
@@ -75,35 +73,39 @@ fn written(random: &mut Random, of_frame: &System) -> Draft {
     Draft { kind, element: element(&structures), numbers }
 }
 
-/// About 512 packets and many more, as many as N can say. Often one of the last has a fault, which comes before 5.
+/// As many packets as the limit, one more, and many more, as many as N can say. Often one of the last has a fault, which comes before 5.
 fn many(random: &mut Random, of_frame: &System) -> Draft {
-    let count = random.pick(&[511, MOST_PACKETS, MOST_PACKETS, MOST_PACKETS + 1, MOST_PACKETS + 1, 600, 1_024, 9_362]);
+    let (most, over) = (MOST_PACKETS, MOST_PACKETS + 1);
+    let count = random.pick(&[FORMER_LIMIT + 1, most - 1, most, most, most, over, over, over, 1_024, 2_048, 9_362]);
     let count = if random.chance(1) { 65_535 } else { count };
-    let mut packets: Vec<Packet> = (0..16).map(|_| packet(random, of_frame.last_line, 0)).collect();
+    let dcs = [0; 12].into_iter().chain([1, 1, 2, 3]);
+    let mut packets: Vec<Packet> = dcs.map(|dc| packet(random, of_frame.last_line, dc)).collect();
     with_lines(random, of_frame, &mut packets);
     let packets: Vec<Packet> = (0..count).map(|k| packets[k % packets.len()].clone()).collect();
     let (mut structures, numbers) = structures(of_frame, &packets);
     if random.chance(30) {
         put_structure_fault(random, &mut structures, of_frame);
     }
-    Draft { kind: "512 packets and more".to_string(), element: element(&structures), numbers }
+    Draft { kind: format!("many, {}", how_many(count)), element: element(&structures), numbers }
 }
 
-/// About 65,535 words: `count` packets, all but the last of one DC. Below 513 packets no sheet has more than 134,144 words.
+/// About 65,535 words: so many packets, of so many words together. With 131,101 it is 29 words over a multiple of 65,536.
 fn words_near_the_limit(random: &mut Random, of_frame: &System) -> Draft {
-    let (count, dc, last_dc) = random.pick(&[
-        (512, 121, 120),
-        (512, 121, 121),
-        (251, 255, 28),
-        (251, 255, 29),
-        (251, 255, 27),
-        (300, 255, 255),
-        (501, 255, 94),
-        (512, 255, 255),
-        (513, 121, 0),
+    let (count, words) = random.pick(&[
+        (MOST_PACKETS, MOST_WORDS),
+        (MOST_PACKETS, MOST_WORDS),
+        (MOST_PACKETS, MOST_WORDS + 1),
+        (FORMER_LIMIT, MOST_WORDS),
+        (251, MOST_WORDS),
+        (251, MOST_WORDS + 1),
+        (251, MOST_WORDS - 1),
+        (300, 262 * 300),
+        (501, 131_101),
+        (MOST_PACKETS, 262 * MOST_PACKETS),
+        (MOST_PACKETS + 1, MOST_WORDS + 1),
     ]);
-    let mut packets: Vec<Packet> =
-        (1..=count).map(|k| packet(random, of_frame.last_line, if k == count { last_dc } else { dc })).collect();
+    let dcs = dcs_of_words(count, words);
+    let mut packets: Vec<Packet> = dcs.into_iter().map(|dc| packet(random, of_frame.last_line, dc)).collect();
     with_lines(random, of_frame, &mut packets);
     let (mut structures, numbers) = structures(of_frame, &packets);
     if random.chance(30) {

@@ -1,15 +1,12 @@
 //! Cases for writing an element: the sheets that laying is given too, with lines as an element needs them or not.
 
 use crate::cases::{how_many, system_and_fi, Call, Case};
-use crate::element::{element, serves, structure, write, HEAD};
+use crate::element::{element, serves, structure, write, ELEMENT_MAX, HEAD};
 use crate::lists::list;
 use crate::packet::Packet;
 use crate::random::Random;
 use crate::rules::System;
 use crate::sheets::{few_numbers, near_the_limit, packets_near_the_limit, put_fault, Draft};
-
-/// Room for every sheet's element, as vanc.h says.
-const MOST_BYTES: usize = HEAD + 512 * 10 + 65_535;
 
 pub fn make(random: &mut Random) -> Case {
     let (system, fi) = system_and_fi(random);
@@ -31,7 +28,7 @@ pub fn make(random: &mut Random) -> Case {
 fn of_list(random: &mut Random, system: &System, fi: bool) -> (String, Vec<u16>, Vec<Packet>) {
     let packing = random.between(1, 2) as u64;
     let mut list = list(random, system, packing);
-    let mut kind = how_many(list.packets.len()).to_string();
+    let mut kind = how_many(list.packets.len());
     if let Some(name) = put_lines(random, system, fi, &mut list.packets) {
         kind = name.to_string();
     }
@@ -69,7 +66,7 @@ fn put_lines(random: &mut Random, system: &System, fi: bool, packets: &mut [Pack
 
 /// Buffers: exact, one byte or more too short or too long, of the head alone, or as long as for packets that are not served too.
 fn buffer(random: &mut Random, sheet: &[u16], fi: bool, system: &System, made_from: &[Packet]) -> Vec<u8> {
-    let written = write(sheet, fi, &[0; MOST_BYTES]);
+    let written = write(sheet, fi, &[0; ELEMENT_MAX]);
     let all = element(&made_from.iter().map(|packet| structure(system, packet)).collect::<Vec<_>>()).len();
     let exact = if written.number == 0 { written.bytes as usize } else { all };
     let longer = exact + random.between(1, 20);
@@ -81,8 +78,8 @@ fn buffer(random: &mut Random, sheet: &[u16], fi: bool, system: &System, made_fr
         4 => 0,
         5 => random.pick(&[HEAD - 1, HEAD, HEAD + 1]),
         6 => all,
-        7 => MOST_BYTES,
-        _ => random.pick(&[MOST_BYTES - 1, exact + 65_536]),
+        7 => ELEMENT_MAX,
+        _ => random.pick(&[ELEMENT_MAX - 1, exact + 65_536]),
     };
     random.background(length)
 }

@@ -1,9 +1,10 @@
-//! The worked figures of document 01 against these rules, and of its rulings what has figures. Then elements in full, and elements of
-//! other programs.
+//! The worked figures of document 01 against these rules, and of its rulings what has figures; the packet limit of request A6, and the
+//! header's sizes. Then elements in full, and elements of other programs.
 
-use crate::element;
+use crate::element::{self, ELEMENT_MAX, ELEMENT_SHEET_MAX, MOST_WORDS};
+use crate::lists::dcs_of_words;
 use crate::packet::{checksum_word, danc, sheet, words, Packet};
-use crate::rules::{lay, read, system, walk};
+use crate::rules::{lay, read, room, system, walk, ReadBack, FORMER_LIMIT, LONGEST_STRING, MOST_PACKETS, SHEET_MAX};
 
 fn packet(line: u16, flags: u16, user: &[u8]) -> Packet {
     let mut bytes = vec![0x45, 0x01, user.len() as u8];
@@ -56,8 +57,91 @@ fn room_of_the_frames() {
     assert_eq!((number(1, 1, &with_last(23, 160)), number(1, 1, &with_last(23, 161))), (0, 12));
     assert_eq!((number(1, 2, &with_last(28, 97)), number(1, 2, &with_last(28, 98))), (0, 12));
     assert_eq!((number(2, 2, &with_last(34, 13)), number(2, 2, &with_last(34, 14))), (0, 12));
-    assert_eq!((number(1, 1, &of_lengths(&[0; 512])), number(1, 1, &of_lengths(&[0; 513]))), (0, 5));
     assert_eq!((number(3, 1, &[packet(750, 0, &[])]), number(3, 1, &[packet(751, 0, &[])])), (0, 6));
+}
+
+/// Request A6: the limit is "the most that 8,928 bytes can hold", and "no list that fits reaches 1,276 packets". What a frame holds of the
+/// smallest packets is laid; one more has no room, or is over the limit.
+#[test]
+fn most_packets() {
+    assert_eq!((LONGEST_STRING / 7, MOST_PACKETS, FORMER_LIMIT), (1_275, 1_275, 512));
+    let of_smallest = |system, packing, count: usize| number(system, packing, &of_lengths(&vec![0; count]));
+    for (system, packing, most) in [(1, 1, 780), (2, 1, 936), (3, 1, 780), (1, 2, 1_062), (2, 2, MOST_PACKETS), (3, 2, 1_062)] {
+        for (count, number) in [(FORMER_LIMIT, 0), (FORMER_LIMIT + 1, 0), (most, 0), (MOST_PACKETS + 1, 5)] {
+            assert_eq!(of_smallest(system, packing, count), number, "{count} in system {system}, packing {packing}");
+        }
+        assert_eq!(of_smallest(system, packing, most + 1), if most == MOST_PACKETS { 5 } else { 12 });
+    }
+    // "over 900 cues of a few bytes": two bytes in system 2, one in the others, in packing 2. 900 of three bytes have 9,000 bytes.
+    let cues = |system, packing, count: usize, dc: usize| number(system, packing, &of_lengths(&vec![dc; count]));
+    assert_eq!((cues(2, 2, 900, 2), cues(2, 2, 900, 3), cues(2, 1, 900, 1)), (0, 12, 12));
+    assert_eq!((cues(2, 2, 992, 2), cues(2, 2, 993, 2), cues(2, 2, 892, 3), cues(2, 2, 893, 3)), (0, 12, 0, 12));
+    assert_eq!((cues(1, 2, 930, 1), cues(1, 2, 931, 1), cues(3, 2, 930, 1), cues(3, 2, 931, 1)), (0, 12, 0, 12));
+}
+
+/// The sheet of the smallest packets, but for the first, which have `dcs`.
+fn smallest_but(system: u64, count: usize, dcs: &[usize]) -> Vec<u16> {
+    let mut lengths = dcs.to_vec();
+    lengths.resize(count, 0);
+    sheet(system, &of_lengths(&lengths))
+}
+
+/// What reading an area gives with room for every sheet, and the area with one of its last user bytes changed, 1 being the last.
+fn read_with_last(system_number: u64, area: &[u8], last: usize, byte: u8) -> ReadBack {
+    let places = system(system_number).unwrap().blocks().concat();
+    let mut area = area.to_vec();
+    area[places[places.len() - last]] = byte;
+    read(system_number, &area, &[7; SHEET_MAX])
+}
+
+/// "5: reading: after 512 packets, not the end", with 1,275 for 512: system 2 has three bytes more, up to all of which may be user bytes.
+#[test]
+fn bytes_behind_the_last_packet() {
+    for dcs in [&[][..], &[1], &[2], &[1, 1], &[3], &[1, 2], &[1, 1, 1]] {
+        let sheet = smallest_but(2, MOST_PACKETS, dcs);
+        let area = lay(&sheet, 2, &[0x55; 11_520]).area;
+        let left = 3 - dcs.iter().sum::<usize>();
+        for last in 1..=left {
+            // Fill, as it is, is the end.
+            let back = read_with_last(2, &area, last, 0xFF);
+            assert_eq!((back.number, back.packing, back.packets, back.numbers as usize), (0, 2, MOST_PACKETS as u64, SHEET_MAX - left));
+            assert_eq!(back.buffer, [&sheet[..], &vec![7; left]].concat());
+            for byte in [0x00, 0x7F, 0x80, 0xFE] {
+                let back = read_with_last(2, &area, last, byte);
+                assert_eq!((back.number, back.place, back.packing, back.packets, back.numbers), (5, MOST_PACKETS as u64, 0, 0, 0));
+                assert_eq!(back.buffer, [7; SHEET_MAX]);
+            }
+        }
+        if left == 0 {
+            let back = read(2, &area, &[7; SHEET_MAX]);
+            assert_eq!((back.number, back.numbers as usize, read(2, &area, &[7; SHEET_MAX - 1]).number), (0, SHEET_MAX, 17));
+            assert_eq!(back.buffer, sheet);
+            // The last byte is the last packet's CS byte.
+            let back = read_with_last(2, &area, 1, 0xFF);
+            assert_eq!((back.number, back.place), (15, MOST_PACKETS as u64 - 1));
+        }
+    }
+    // Systems 1 and 3 have six bytes more, in which no packet has room.
+    for system in [1, 3] {
+        let area = lay(&smallest_but(system, 1_062, &[]), 2, &[0x55; 9_600]).area;
+        for last in 1..=6 {
+            let (fill, other) = (read_with_last(system, &area, last, 0xFF), read_with_last(system, &area, last, 0x00));
+            assert_eq!((fill.number, fill.packets, other.number, other.place), (0, 1_062, 14, 1_062));
+        }
+    }
+}
+
+/// The sizes that the header promises, from the rules, and as they stand there.
+#[test]
+fn sizes_of_the_header() {
+    let strings = [1, 2, 3].map(|number| room(&system(number).unwrap().blocks(), 2));
+    assert_eq!(strings, [7_440, LONGEST_STRING, 7_440]);
+    assert_eq!((SHEET_MAX, ELEMENT_MAX, ELEMENT_SHEET_MAX), (11_482, 78_307, 68_089));
+    let header = include_str!("../../include/vanc.h");
+    let sizes = [("VANC_SHEET_MAX", SHEET_MAX), ("VANC_ELEMENT_MAX", ELEMENT_MAX), ("VANC_ELEMENT_SHEET_MAX", ELEMENT_SHEET_MAX)];
+    for (name, size) in sizes {
+        assert!(header.contains(&format!("\n#define {name} {size}\n")), "{name} is not {size}");
+    }
 }
 
 /// "surplus packs of fill are 14 while fewer than 262 bytes of fill remain, and 15 from 262 on"; "E3h with END 0 and all FFh behind it is
@@ -185,21 +269,36 @@ fn padded_element() {
 #[test]
 fn elements_over_the_limits() {
     let structure = &P_ELEMENT[22..];
-    assert_eq!(refusal(1, &element::element(&vec![structure.to_vec(); 513])), (5, 512));
-    let back = element::read(1, false, &element::element(&vec![structure.to_vec(); 512]), &[7; 4 + 1024 + 9 * 512]);
-    assert_eq!((back.number, back.packets), (0, 512));
-    // 65,535 words, the most: 512 packets give the longest element and the longest sheet.
-    let mut packets = of_lengths(&[121; 512]);
-    packets[0] = packet(9, 0, &[0x80; 120]);
-    let written = element::write(&sheet(1, &packets), false, &[0; 70_677]);
-    assert_eq!((written.number, written.bytes, element::write(&sheet(1, &packets), false, &[0; 70_676]).number), (0, 70_677, 17));
-    let back = element::read(1, false, &written.element, &[0; 66_563]);
-    assert_eq!((back.number, back.numbers), (0, 66_563));
-    assert_eq!(element::read(1, false, &written.element, &[0; 66_562]).number, 17);
-    packets[0] = packet(9, 0, &[0x80; 121]);
-    let structures: Vec<Vec<u8>> = packets.iter().map(|packet| element::structure(&system(1).unwrap(), packet)).collect();
-    let back = element::read(1, false, &element::element(&structures), &[0; 70_000]);
-    assert_eq!((back.number, back.place, back.packets, back.numbers), (17, 0, 0, 0));
+    let of_structures = |count: usize| element::element(&vec![structure.to_vec(); count]);
+    for count in [FORMER_LIMIT, FORMER_LIMIT + 1, MOST_PACKETS] {
+        let back = element::read(1, false, &of_structures(count), &[7; 4 + 11 * MOST_PACKETS]);
+        assert_eq!((back.number, back.packets, back.numbers), (0, count as u64, 4 + 11 * count as u64));
+    }
+    for count in [MOST_PACKETS + 1, MOST_PACKETS + 2, 2 * MOST_PACKETS, 65_535] {
+        assert_eq!(refusal(1, &of_structures(count)), (5, MOST_PACKETS as u64));
+    }
+    // 19 is looked for in the whole element first.
+    let mut damaged = of_structures(MOST_PACKETS + 1);
+    let last = damaged.len() - structure.len();
+    damaged[last] = 0xFF;
+    assert_eq!(refusal(1, &damaged), (19, last as u64));
+    let over = sheet(1, &of_lengths(&[0; MOST_PACKETS + 1]));
+    assert_eq!((element::write(&over, false, &[0; ELEMENT_MAX]).number, element::write(&over, false, &[]).place), (5, 0));
+    // 65,535 words, the most: with as many packets as there may be, the longest element and the longest sheet.
+    for number in [1, 2, 3] {
+        let packets = of_lengths(&dcs_of_words(MOST_PACKETS, MOST_WORDS));
+        let long = sheet(number, &packets);
+        let written = element::write(&long, false, &[0; ELEMENT_MAX]);
+        assert_eq!((written.number, written.packets, written.bytes), (0, MOST_PACKETS as u64, ELEMENT_MAX as u64));
+        assert_eq!(element::write(&long, false, &[0; ELEMENT_MAX - 1]).number, 17);
+        let back = element::read(number, false, &written.element, &[0; ELEMENT_SHEET_MAX]);
+        assert_eq!((back.number, back.numbers as usize, back.buffer == long), (0, ELEMENT_SHEET_MAX, true));
+        assert_eq!(element::read(number, false, &written.element, &[0; ELEMENT_SHEET_MAX - 1]).number, 17);
+        let packets = of_lengths(&dcs_of_words(MOST_PACKETS, MOST_WORDS + 1));
+        let structures: Vec<Vec<u8>> = packets.iter().map(|packet| element::structure(&system(number).unwrap(), packet)).collect();
+        let back = element::read(number, false, &element::element(&structures), &[0; ELEMENT_SHEET_MAX + 1]);
+        assert_eq!((back.number, back.place, back.packets, back.numbers), (17, 0, 0, 0));
+    }
 }
 
 /// Elements of other programs (tests/vectors): how they are refused, and what they give when one fault after another is mended.

@@ -2,7 +2,7 @@
 
 use crate::packet::Packet;
 use crate::random::Random;
-use crate::rules::{room, System, MOST_PACKETS};
+use crate::rules::{room, System, FORMER_LIMIT, MOST_PACKETS};
 
 pub const BYTES: [u8; 5] = [0xFF, 0xE1, 0xE2, 0xE3, 0x00];
 const DCS: [usize; 8] = [0, 1, 2, 3, 4, 5, 254, 255];
@@ -16,7 +16,7 @@ pub struct List {
 /// A list for laying in the packing. Whether it has room is left open.
 pub fn list(random: &mut Random, system: &System, packing: u64) -> List {
     let blocks = system.blocks();
-    let (kind, dcs) = match random.weighted(&[56, 12, 14, 12, 3, 3]) {
+    let (kind, dcs) = match random.weighted(&[58, 13, 14, 8, 5, 2]) {
         0 => ("0 to 3 packets".to_string(), short(random)),
         1 => ("4 to 40 packets".to_string(), middle(random)),
         2 => {
@@ -25,13 +25,10 @@ pub fn list(random: &mut Random, system: &System, packing: u64) -> List {
             ("about a block's end".to_string(), dcs_of_total(random, total, packing))
         }
         3 => full(random, system, packing),
-        4 => {
-            let count = random.between(MOST_PACKETS - 1, MOST_PACKETS);
-            (format!("{count} packets"), (0..count).map(|_| random.pick(&[0, 0, 0, 1, 2, 5])).collect())
-        }
+        4 => many(random, system, packing),
         _ => {
             let count = random.between(1, 8) + MOST_PACKETS;
-            ("over 512 packets".to_string(), (0..count).map(|_| random.pick(&[0, 0, 0, 1, 2])).collect())
+            (format!("over {MOST_PACKETS} packets"), (0..count).map(|_| random.pick(&[0, 0, 0, 0, 0, 1, 2, 3])).collect())
         }
     };
     List { kind, packets: dcs.into_iter().map(|dc| packet(random, system.last_line, dc)).collect() }
@@ -43,6 +40,22 @@ fn short(random: &mut Random) -> Vec<usize> {
 
 fn middle(random: &mut Random) -> Vec<usize> {
     (0..random.between(4, 40)).map(|_| if random.chance(90) { random.below(20) } else { any_dc(random) }).collect()
+}
+
+/// From the former limit to the limit, mostly of DC 0, some of 1, 2 and 3: often as many as the frame holds of the smallest (780 or 936 in
+/// packing 1, 1,062 or 1,275 in packing 2) or one more, and as many user bytes as are left then, or one more.
+fn many(random: &mut Random, system: &System, packing: u64) -> (String, Vec<usize>) {
+    let (room, least) = (room(&system.blocks(), packing), if packing == 1 { 2 } else { 7 });
+    let (fitting, any, most) = (room / least, random.between(FORMER_LIMIT + 1, MOST_PACKETS), MOST_PACKETS);
+    let count = random.pick(&[FORMER_LIMIT, FORMER_LIMIT + 1, any, any, fitting, fitting + 1, most - 1, most, most, most]).min(most);
+    let (left, few) = (room.saturating_sub(least * count).min(count / 2), random.below(4));
+    let mut dcs = vec![0; count];
+    for _ in 0..random.pick(&[0, few, left, left + 1]) {
+        let k = random.below(count);
+        // The first user byte takes a pack more in packing 1, each takes a string byte in packing 2.
+        dcs[k] = if packing == 1 { random.between(1, 3) } else { dcs[k] + 1 };
+    }
+    (if count == most { format!("{count} packets") } else { format!("{FORMER_LIMIT} packets and more") }, dcs)
 }
 
 fn any_dc(random: &mut Random) -> usize {
@@ -69,7 +82,7 @@ fn full(random: &mut Random, system: &System, packing: u64) -> (String, Vec<usiz
     (format!("system {} {name}: {total} {unit}", system.number), dcs_of_total(random, total, packing))
 }
 
-/// The DCs of packets that take `total` packs in packing 1, `total` string bytes in packing 2. At most 512 packets.
+/// The DCs of packets that take `total` packs in packing 1, `total` string bytes in packing 2. No more packets than the limit.
 pub fn dcs_of_total(random: &mut Random, total: usize, packing: u64) -> Vec<usize> {
     let (least, most) = if packing == 1 { (2, 66) } else { (7, 262) };
     let fewest = (total + most - 1) / most;
@@ -87,6 +100,12 @@ pub fn dcs_of_total(random: &mut Random, total: usize, packing: u64) -> Vec<usiz
         }
     }
     parts
+}
+
+/// The DCs of `count` packets that have `words` words together, as even as can be.
+pub fn dcs_of_words(count: usize, words: usize) -> Vec<usize> {
+    let user = words - 7 * count;
+    (0..count).map(|k| user / count + usize::from(k < user % count)).collect()
 }
 
 /// `total` in `count` parts, none over `most`.

@@ -1,4 +1,4 @@
-//! Compares libvanc with a second implementation of document 01 and request A1, on cases made by chance.
+//! Compares libvanc with a second implementation of document 01 and the requests A1 and A6, on cases made by chance.
 //!
 //! second SEED CASES COMMAND [ARG..]         asks COMMAND (answer.c) CASES cases; exits with 1 on a mismatch or a number never met
 //! second --case SEED CASE COMMAND [ARG..]   makes one case again and shows it
@@ -88,7 +88,7 @@ fn run(seed: u64, cases: u64, command: &[String]) -> io::Result<bool> {
     let mut mismatches = Vec::new();
     for (i, case, expected) in asked {
         let given = answer(&case.call, &mut answers).ok();
-        tally.count(case.call.which(), expected.fields[0], case.kind);
+        tally.count(case.call.which(), expected.fields[0], expected.fields[1], case.kind);
         let ended = given.is_none();
         if given != Some(expected) {
             mismatches.push(Mismatch { case: i, call: case.call.which(), size: size(&case.call) });
@@ -104,8 +104,8 @@ fn run(seed: u64, cases: u64, command: &[String]) -> io::Result<bool> {
     println!("seed {seed}");
     tally.show();
     let missed = if cases >= ENOUGH { tally.missed() } else { Vec::new() };
-    for (call, number) in &missed {
-        println!("never met: {number} on {}", NAMES[*call]);
+    for words in &missed {
+        println!("never met: {words}");
     }
     explain_smallest(seed, &mismatches, command)?;
     if !ended_well {

@@ -5,11 +5,11 @@ use crate::lists::{dcs_of_total, list, packet};
 use crate::pack_faults::{put_long_fault, put_small_fault};
 use crate::packet::{danc, sheet, Packet};
 use crate::random::Random;
-use crate::rules::{area_with, long_packs, packs_of_five, read, room, System, MOST_PACKETS};
+use crate::rules::{area_with, long_packs, packs_of_five, read, room, system, System, SHEET_MAX};
 use crate::string_faults::{odd_but_sound, put_fault};
 
-/// Room for every frame's sheet, as vanc.h says.
-const MOST_NUMBERS: usize = 4 + 1024 + 9360;
+/// Which of the ways to make a frame takes the smallest packets.
+const SMALLEST: usize = 4;
 
 /// The packs of an area, before they are written, and the length of the sheet that they were made from.
 struct Frame {
@@ -19,15 +19,16 @@ struct Frame {
 }
 
 pub fn make(random: &mut Random) -> Case {
-    let of_frame = any_system(random);
+    let way = random.weighted(&[75, 6, 5, 5, 5, 4]);
+    let of_frame = if way == SMALLEST { often_system_2(random) } else { any_system(random) };
     let mut system = of_frame.number;
     let blocks = of_frame.blocks();
-    let mut frame = match random.weighted(&[75, 6, 5, 5, 5, 4]) {
+    let mut frame = match way {
         0 => laid(random, &of_frame),
         1 => surplus_fill(random, &of_frame, &blocks),
         2 => random_packs(random),
         3 => random_string(random, &blocks),
-        4 => by_force(random, &of_frame, &blocks),
+        SMALLEST => smallest(random, &of_frame, &blocks),
         _ => nothing(random),
     };
     let user = user_bytes(&frame.packs, &blocks);
@@ -101,11 +102,15 @@ fn drop_what_has_no_room(dancs: &mut Vec<Vec<u8>>, room: usize, packing: u64) ->
     if packing == 1 {
         dancs.retain(|danc| danc.len() > 3);
     }
-    let used = |dancs: &[Vec<u8>]| if packing == 1 { packs_of_five(dancs).len() } else { dancs.concat().len() };
-    let over = used(dancs) > room;
-    while used(dancs) > room {
-        dancs.pop();
-    }
+    let mut used = 0;
+    let fits = |danc: &&Vec<u8>| {
+        // A starter has three of the bytes, each carrier up to four.
+        used += if packing == 1 { 1 + danc.len() / 4 } else { danc.len() };
+        used <= room
+    };
+    let fitting = dancs.iter().take_while(fits).count();
+    let over = fitting < dancs.len();
+    dancs.truncate(fitting);
     over
 }
 
@@ -176,29 +181,58 @@ fn random_string(random: &mut Random, blocks: &[Vec<usize>]) -> Frame {
     Frame { kind: "read, string as it comes".to_string(), packs, numbers: 100 }
 }
 
-/// More than 512 packets, up to what the area holds. Or 512 and then neither a packet nor the end.
-fn by_force(random: &mut Random, of_frame: &System, blocks: &[Vec<usize>]) -> Frame {
-    let packing = random.between(1, 2) as u64;
-    let most = room(blocks, packing) / if packing == 1 { 2 } else { 7 };
-    let count = random.pick(&[MOST_PACKETS, MOST_PACKETS + 1, MOST_PACKETS + 2, most]);
-    let packets: Vec<Packet> = (0..count).map(|_| packet(random, of_frame.last_line, 0)).collect();
-    let mut dancs: Vec<Vec<u8>> = packets.iter().map(danc).collect();
-    if random.chance(50) {
-        let (k, byte) = (random.pick(&[0, MOST_PACKETS - 1, count - 1]), random.pick(&[0, 1, 3, 5, 5, 5, 6]));
-        dancs[k][byte] ^= 1 << random.below(8);
+/// In packing 2 system 2 alone has room for as many packets as the limit: there 5 comes.
+fn often_system_2(random: &mut Random) -> System {
+    system(random.pick(&[1, 2, 2, 2, 3])).expect("1 to 3 are systems")
+}
+
+/// Frames full, or nearly, of the smallest packets: 780 or 936 in packing 1, 1,062 in systems 1 and 3 in packing 2, where 5 cannot come, and
+/// in system 2 as many as the limit. Behind those are three bytes, of which some may be user bytes of the packets instead; where the others
+/// are not all fill, it is 5. Often a packet is damaged, mostly a late one.
+fn smallest(random: &mut Random, of_frame: &System, blocks: &[Vec<usize>]) -> Frame {
+    let packing = if random.chance(25) { 1 } else { 2 };
+    let room = room(blocks, packing);
+    let count = room / if packing == 1 { 2 } else { 7 } - random.pick(&[0, 0, 0, 0, 0, 1, 2]);
+    let mut dcs = vec![0; count];
+    if packing == 2 {
+        for _ in 0..random.below(4) {
+            dcs[random.index(count)] += 1;
+        }
     }
+    let packets: Vec<Packet> = dcs.into_iter().map(|dc| packet(random, of_frame.last_line, dc)).collect();
+    let mut dancs: Vec<Vec<u8>> = packets.iter().map(danc).collect();
+    let mut kind = format!("read, the smallest packets, system {} packing {packing}", of_frame.number);
+    if random.chance(35) {
+        let mut late = dancs.split_off(random.pick(&[0, count * 9 / 10, count * 9 / 10]));
+        kind = format!("read, the smallest packets, fault: {}", put_fault(random, &mut late, of_frame.last_line));
+        dancs.extend(late);
+    }
+    let numbers = sheet(of_frame.number, &packets).len();
     if packing == 1 {
-        return Frame { kind: "read, 512 packets and more".to_string(), packs: packs_of_five(&dancs), numbers: 4 + 9 * count };
+        drop_what_has_no_room(&mut dancs, room, 1);
+        return Frame { kind, packs: packs_of_five(&dancs), numbers };
     }
     let mut string = dancs.concat();
-    if random.chance(30) {
-        string.push(random.pick(&[0x00, 0xFE]));
+    let behind = bytes_behind(random, room.saturating_sub(string.len()));
+    string.extend(behind);
+    string.truncate(room);
+    let mut packs = long_packs(&string, blocks);
+    if random.chance(10) {
+        kind = format!("read, the smallest packets, packs: {}", put_long_fault(random, &mut packs, blocks));
     }
-    let mut packs = long_packs(&string[..string.len().min(room(blocks, 2))], blocks);
-    if random.chance(30) {
-        put_long_fault(random, &mut packs, blocks);
+    Frame { kind, packs, numbers }
+}
+
+/// What stands behind the last packet: fill, fill but for one byte, or as it comes.
+fn bytes_behind(random: &mut Random, length: usize) -> Vec<u8> {
+    let mut behind = vec![0xFF; length];
+    match random.below(4) {
+        0 => {}
+        1 => behind = random.background(length),
+        _ if length > 0 => behind[random.below(length)] = random.pick(&[0x00, 0x7F, 0x80, 0xFE]),
+        _ => {}
     }
-    Frame { kind: "read, 512 packets and more".to_string(), packs, numbers: 4 + 9 * count }
+    behind
 }
 
 /// All fill, or one pack's head and then fill.
@@ -230,8 +264,8 @@ fn damage_byte(random: &mut Random, area: &mut [u8], places: &[usize], used: usi
 }
 
 fn buffer(random: &mut Random, system: u64, area: &[u8], made_from: usize) -> Vec<u16> {
-    let back = read(system, area, &[0; MOST_NUMBERS]);
-    buffer_near(random, if back.number == 0 { back.numbers as usize } else { made_from }, MOST_NUMBERS)
+    let back = read(system, area, &[0; SHEET_MAX]);
+    buffer_near(random, if back.number == 0 { back.numbers as usize } else { made_from }, SHEET_MAX)
 }
 
 /// Buffers of noise for a sheet: exact, one or more numbers too short or too long, very short, or with room for every sheet.

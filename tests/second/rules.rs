@@ -85,8 +85,16 @@ impl System {
     }
 }
 
-/// "P is at most 512."
-pub const MOST_PACKETS: usize = 512;
+/// Request A6: "Raise the limit to 1,275, the most that 8,928 bytes can hold." Document 01 had 512 wherever the limit stands.
+pub const MOST_PACKETS: usize = 1_275;
+/// The limit before request A6: "Sheets of 512 or fewer keep the same bytes; the old program refuses a larger one with 5." Cases stand on
+/// both sides of it.
+pub const FORMER_LIMIT: usize = 512;
+
+/// The string capacity of system 2, the most that a frame has.
+pub const LONGEST_STRING: usize = 8_928;
+/// Room for the sheet of every frame, VANC_SHEET_MAX of vanc.h: as many packets as there may be, in the longest string.
+pub const SHEET_MAX: usize = 4 + 2 * MOST_PACKETS + LONGEST_STRING;
 
 // Laying.
 
@@ -254,7 +262,8 @@ pub fn read(system_number: u64, area: &[u8], buffer: &[u16]) -> ReadBack {
     back
 }
 
-/// The packing found and the packets. "Reading tests 3, 4, 13, then packet by packet 5 (only a 513th), 14, 15, 16, then 17."
+/// The packing found and the packets. "Reading tests 3, 4, 13, then packet by packet 5 (only a 513th), 14, 15, 16, then 17." Request A6
+/// has 1,275 for 512, "and so does 5's place on reading".
 fn reading(system_number: u64, area: &[u8], room: usize) -> Result<(u64, Vec<Packet>), Refusal> {
     let system = system(system_number).ok_or((3, 0))?;
     refuse_if(area.len() != system.area_bytes(), 4, 0)?;
@@ -301,7 +310,7 @@ fn starters(user: &[u8]) -> Option<Vec<Vec<u8>>> {
 fn packets_of_starters(starters: &[Vec<u8>], system: &System) -> Result<Vec<Packet>, Refusal> {
     let mut packets = Vec::new();
     for (k, bytes) in starters.iter().enumerate() {
-        // "5: reading: after 512 packets, not the end"
+        // "5: reading: after 512 packets, not the end", with the limit of request A6
         refuse_if(k == MOST_PACKETS, 5, MOST_PACKETS)?;
         // Seven bytes and the user bytes: three in the starter, four in each carrier.
         let length = bytes[5] as usize + 7;
@@ -341,7 +350,7 @@ fn packets_of_string(string: &LongString, system: &System) -> Result<Vec<Packet>
     let mut place = 0;
     while !(place > string.last_pack && is_fill(&string.bytes[place..])) {
         let k = packets.len();
-        // "5: reading: after 512 packets, not the end"
+        // "5: reading: after 512 packets, not the end", with the limit of request A6
         refuse_if(k == MOST_PACKETS, 5, MOST_PACKETS)?;
         let danc = first_danc(&string.bytes[place..]).ok_or((14, k as u64))?;
         packets.push(from_danc(danc, system.last_line).map_err(|number| (number, k as u64))?);

@@ -1,9 +1,10 @@
 //! Sheets for laying and for elements: sound, near the limit of 16 bits, of a few numbers, and with one or more faults.
 
-use crate::lists::packet;
+use crate::element::MOST_WORDS;
+use crate::lists::{dcs_of_words, packet};
 use crate::packet::{parity_word, with_bit_9, words, Packet};
 use crate::random::Random;
-use crate::rules::System;
+use crate::rules::{System, FORMER_LIMIT, MOST_PACKETS};
 
 /// A sheet in its parts, so that several faults can be put into one.
 pub struct Draft {
@@ -209,27 +210,28 @@ fn locations_differ(random: &mut Random, draft: &mut Draft) -> &'static str {
     "locations and packets differ"
 }
 
-/// Packets of about 65,535 words, exactly as many, or of more than a sheet can count: `count` of them, all but the last of one DC.
+/// Packets of about 65,535 words, exactly as many, or of more than a sheet can count: so many packets, of so many words together.
 pub fn packets_near_the_limit(random: &mut Random, system: &System) -> Vec<Packet> {
-    let (count, dc, last_dc) = random.pick(&[
-        (9362, 0, 0),
-        (512, 121, 121),
-        (512, 120, 120),
-        (512, 121, 120),
-        (250, 255, 255),
-        (251, 255, 28),
-        (600, 0, 0),
-        (3, 2, 2),
+    let (count, words) = random.pick(&[
+        (9_362, 7 * 9_362),
+        (MOST_PACKETS, MOST_WORDS + 1),
+        (MOST_PACKETS, MOST_WORDS - MOST_PACKETS),
+        (MOST_PACKETS, MOST_WORDS),
+        (FORMER_LIMIT + 1, MOST_WORDS),
+        (250, 250 * 262),
+        (251, MOST_WORDS),
+        (2_048, 7 * 2_048),
+        (3, 3 * 9),
     ]);
-    (1..=count).map(|k| packet(random, system.last_line, if k == count { last_dc } else { dc })).collect()
+    dcs_of_words(count, words).into_iter().map(|dc| packet(random, system.last_line, dc)).collect()
 }
 
 /// Sheets of up to 65,535 locations and 65,535 words, and lengths that are right in 16 bits only.
 pub fn near_the_limit(random: &mut Random, system: &System, packets: &[Packet]) -> Vec<u16> {
     let mut draft = Draft::of(system, packets);
     match random.below(5) {
-        0 => draft.locations.truncate(random.pick(&[511, 512, 513])),
-        1 => draft.locations.resize(random.pick(&[513, 514, 32_768, 65_535]), [9, 0]),
+        0 => draft.locations.truncate(random.pick(&[FORMER_LIMIT, MOST_PACKETS - 1, MOST_PACKETS, MOST_PACKETS + 1])),
+        1 => draft.locations.resize(random.pick(&[MOST_PACKETS, MOST_PACKETS + 1, MOST_PACKETS + 2, 32_768, 65_535]), [9, 0]),
         2 => draft.behind = vec![0; 65_536],
         3 => draft.count_p_off = 32_768,
         _ => {}
@@ -242,5 +244,6 @@ pub fn near_the_limit(random: &mut Random, system: &System, packets: &[Packet]) 
 
 /// Sheets of a few numbers, such as a count may be.
 pub fn few_numbers(random: &mut Random) -> Vec<u16> {
-    (0..random.below(8)).map(|k| if k == 0 { 1 } else { random.pick(&[0, 0, 0, 1, 1, 2, 3, 513, 65_535]) }).collect()
+    let over = MOST_PACKETS as u16 + 1;
+    (0..random.below(8)).map(|k| if k == 0 { 1 } else { random.pick(&[0, 0, 0, 1, 1, 2, 3, over, 65_535]) }).collect()
 }

@@ -3,9 +3,9 @@
 use std::ops::Range;
 
 use crate::cases::Call;
-use crate::element;
+use crate::element::{self, ELEMENT_MAX, ELEMENT_SHEET_MAX};
 use crate::packet;
-use crate::rules::{area_with, lay, long_packs, read, system};
+use crate::rules::{area_with, lay, long_packs, read, system, SHEET_MAX};
 
 /// A measure of how much a call is given that matters: numbers of the sheet, user bytes up to the fill, bytes of the string or element.
 pub fn size(call: &Call) -> usize {
@@ -29,19 +29,16 @@ pub fn without<T: Clone>(from: &[T], start: usize, count: usize) -> Vec<T> {
 
 // Sheets.
 
-/// Room for every element and for the sheet of every element.
-const MOST_OF_ELEMENT: usize = 71_000;
-
 /// The sheet that is laid or written to an element, or that an area or element gives.
 fn sheet(call: &Call) -> Option<Vec<u16>> {
     match call {
         Call::Lay { sheet, .. } | Call::MxfWrite { sheet, .. } => Some(sheet.clone()),
         Call::Read { system, area, .. } => {
-            let back = read(*system, area, &[0; 11_000]);
+            let back = read(*system, area, &[0; SHEET_MAX]);
             (back.packets > 0).then(|| back.buffer[..back.numbers as usize].to_vec())
         }
         Call::MxfRead { system, fi, element, .. } => {
-            let back = element::read(*system, *fi, element, &[0; MOST_OF_ELEMENT]);
+            let back = element::read(*system, *fi, element, &[0; ELEMENT_SHEET_MAX]);
             (back.packets > 0).then(|| back.buffer[..back.numbers as usize].to_vec())
         }
         Call::Walk { .. } => None,
@@ -55,7 +52,7 @@ fn with_sheet(call: &Call, sheet: Vec<u16>) -> Option<Call> {
         Call::Lay { packing, area, .. } => Some(Call::Lay { sheet, packing: *packing, area: area.clone() }),
         Call::MxfWrite { fi, element, .. } => Some(Call::MxfWrite { sheet, fi: *fi, element: element.clone() }),
         Call::Read { system, area, .. } => {
-            let packing = read(*system, area, &[0; 11_000]).packing;
+            let packing = read(*system, area, &[0; SHEET_MAX]).packing;
             let laid = lay(&sheet, packing, area);
             if laid.number != 0 {
                 return None;
@@ -63,7 +60,7 @@ fn with_sheet(call: &Call, sheet: Vec<u16>) -> Option<Call> {
             with_area(call, laid.area)
         }
         Call::MxfRead { system, fi, buffer, .. } => {
-            let written = element::write(&sheet, *fi, &[0; MOST_OF_ELEMENT]);
+            let written = element::write(&sheet, *fi, &[0; ELEMENT_MAX]);
             if written.number != 0 {
                 return None;
             }

@@ -31,23 +31,33 @@ const CANNOT: [(usize, &[usize], &str); 15] = [
     (MXF_READ, &[18], "an element's packets have lines; line 0 is 19"),
 ];
 
+/// From this packet or location on a refusal is late: its place has more than ten bits.
+const LATE: u64 = 1_024;
+
+/// Numbers whose place is a packet or a location, and that have to be met as late as that.
+const BY_PACKET: [(usize, &[usize]); 4] = [(LAY, &[6, 7, 8, 9, 10]), (READ, &[5, 14, 15, 16]), (MXF_WRITE, &[18]), (MXF_READ, &[5])];
+
 fn cannot(call: usize, number: usize) -> bool {
     CANNOT.iter().any(|(of, numbers, _)| *of == call && numbers.contains(&number))
 }
 
-/// Counts of a run: numbers by call, and kinds of cases.
+/// Counts of a run: numbers by call, those with a late place too, and kinds of cases.
 pub struct Tally {
     met: [[u64; NUMBERS]; CALLS],
+    late: [[u64; NUMBERS]; CALLS],
     kinds: BTreeMap<String, u64>,
 }
 
 impl Tally {
     pub fn new() -> Tally {
-        Tally { met: [[0; NUMBERS]; CALLS], kinds: BTreeMap::new() }
+        Tally { met: [[0; NUMBERS]; CALLS], late: [[0; NUMBERS]; CALLS], kinds: BTreeMap::new() }
     }
 
-    pub fn count(&mut self, call: usize, number: u64, kind: String) {
+    pub fn count(&mut self, call: usize, number: u64, place: u64, kind: String) {
         self.met[call][number as usize] += 1;
+        if place >= LATE {
+            self.late[call][number as usize] += 1;
+        }
         *self.kinds.entry(kind).or_default() += 1;
     }
 
@@ -55,10 +65,14 @@ impl Tally {
         self.met.iter().flatten().sum()
     }
 
-    /// Numbers that can be met in a call and were not.
-    pub fn missed(&self) -> Vec<(usize, usize)> {
+    /// Numbers that can be met in a call, or with a late place, and were not.
+    pub fn missed(&self) -> Vec<String> {
         let all = (0..CALLS).flat_map(|call| (0..NUMBERS).map(move |number| (call, number)));
-        all.filter(|&(call, number)| self.met[call][number] == 0 && !cannot(call, number)).collect()
+        let missed = all.filter(|&(call, number)| self.met[call][number] == 0 && !cannot(call, number));
+        let never = missed.map(|(call, number)| format!("{number} on {}", NAMES[call]));
+        let late = BY_PACKET.iter().flat_map(|&(call, numbers)| numbers.iter().map(move |&number| (call, number)));
+        let never_late = late.filter(|&(call, number)| self.late[call][number] == 0);
+        never.chain(never_late.map(|(call, number)| format!("{number} on {}, at {LATE} or later", NAMES[call]))).collect()
     }
 
     pub fn show(&self) {
@@ -70,6 +84,11 @@ impl Tally {
         let of = |call: usize| self.met[call].iter().sum::<u64>();
         println!("cases: {}", (0..CALLS).map(|call| format!("{} of {}", of(call), NAMES[call])).collect::<Vec<_>>().join(", "));
         show_numbers(&self.met, cannot);
+        println!("of these at packet or location {LATE} or later:");
+        for (call, numbers) in BY_PACKET {
+            let late: Vec<String> = numbers.iter().map(|&number| format!("{number} {} times", self.late[call][number])).collect();
+            println!("  {}: {}", NAMES[call], late.join(", "));
+        }
         println!("cannot be met (-):");
         for (call, numbers, why) in CANNOT {
             let numbers: Vec<String> = numbers.iter().map(usize::to_string).collect();
