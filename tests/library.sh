@@ -1,5 +1,6 @@
 #!/usr/bin/env bash
-# The library as others link it: the archive, the header against it and alone, the words of its refusals, the examples in C and Rust built and run.
+# The library as others link it: the archive, the header against it and alone, the words of its refusals, the packet limit in every call, the examples
+# in C and Rust built and run.
 set -euo pipefail
 cd "$(dirname "$0")/.."
 . tests/machine.sh
@@ -93,6 +94,11 @@ words="0 done
 cc_for -std=c99 "${strict[@]}" -O2 -I include "$work/words.c" -o "$work/words"
 says "vanc_refusal_text" "$words" "$work/words"
 echo "vanc_refusal_text: the words of every number"
+
+# ---- the packet limit
+
+cc_for -std=c99 "${strict[@]}" -O2 -I include tests/limit.c "$archive" -o "$work/limit"
+run "$work/limit" || fail "the packet limit is not kept"
 
 # ---- the examples
 
