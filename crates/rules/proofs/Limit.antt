@@ -3,21 +3,21 @@
 -- bytes together, where the one to three bytes that remain are not all FFh.
 --
 -- In order: what the blocks hold; no list that fits reaches 1,276 packets (`fits-few`); where 5 occurs (`FiveAt`, `five-small`): nowhere
--- else (`five-where`), there (`five-there`), and that there are such areas (`five-laid`).
+-- else (`five-where`), there (`five-there`), and that there are such areas (`five-laid`), also with a user byte (`five-user`).
 -- Assumes nothing.
-use Prim.Native.Nat.{ℕ, _+_, _*_, _/_, _≤_}
+use Prim.Native.Nat.{ℕ, zero, suc, _+_, _*_, _/_, _≤_, _<_}
 use mathlib.Core.Path.{_≡_, refl, sym, ap, _∙_, subst}
 use mathlib.Core.Logic.{_⊎_, inl, inr, ⊎-elim}
 use mathlib.Core.Bool.{Bool, true, false, cond}
 use mathlib.Core.List.{List, [], _∷_, _++_, map, append-nil}
 use native.Mathlib.Omega.{arith}
-use lib.Dec.{eqb, ltb, leb}
-use lib.ListN.{length, length-append, length-map, length-replicate}
+use lib.Dec.{eqb, ltb, leb, leb·zero}
+use lib.ListN.{length, replicate, length-append, length-map, length-replicate}
 use borrow.Author.Tests.{eqb-true, leb-true, lt-ltb}
-use Rattle.rules.specs.Base.{allIs, sum, All, none, Bytes}
-use Rattle.rules.specs.Systems.{System, hd1080-60i, hd1080-50i, hd720-60p, known, system}
+use Rattle.rules.specs.Base.{allIs, sum, All, none, one, Bytes}
+use Rattle.rules.specs.Systems.{System, hd1080-60i, hd1080-50i, hd720-60p, known, system, stands}
 use Rattle.rules.specs.Packet.{Packet}
-use Rattle.rules.specs.Danc.{Item, Good, packetsOf, string, stringBytes}
+use Rattle.rules.specs.Danc.{Item, Good, written, packetsOf, string, stringBytes}
 use Rattle.rules.specs.Sheet.{limit, sheetOf}
 use Rattle.rules.specs.Blocks.{blockStart, shift, width, runs, blockSizes, areaSize, userBytesIn, scatter}
 use Rattle.rules.specs.Packing1.{flat, fives, packsOf}
@@ -31,7 +31,7 @@ use Rattle.rules.proofs.Basics.{never, second-false}
 use Rattle.rules.proofs.Strings.{string-room, string-over-read, string-over-laid}
 use Rattle.rules.proofs.Packs.{flat-fives, flat-length, packs-least, packs-over}
 use Rattle.rules.proofs.Long.{long-length, long-read, opened-first, opened-room, long-bytes}
-use Rattle.rules.proofs.Blocks.{gather-length, gather-bytes, gather-scatter, from-test, facts-of}
+use Rattle.rules.proofs.Blocks.{gather-length, gather-bytes, scatter-length, gather-scatter, from-test, facts-of}
 use Rattle.rules.proofs.Users.{users-refusal}
 use Rattle.rules.proofs.Reading.{reading-is}
 
@@ -300,3 +300,48 @@ five-laid xs tail area g many three e l =
 
     laid : List ℕ
     laid = longPacks ns [] (string xs ++ tail)
+
+-- the packets need not be without user bytes: in some area one of the 1,275 has one, and the two bytes that remain are 00h
+pub five-user : (area : List ℕ) → length area ≡ areaSize (system 2)
+    → (after : List ℕ) × (length after ≡ areaSize (system 2)) × (f : FiveAt 2 after limit) × (userCount (packetsOf (f .items)) ≡ 1)
+unfolding known limit stands five-laid
+five-user area l =
+    let u = no-users 1274 in
+    let f = facts-of 2 refl in
+    let us : List ℕ = longPacks (blockSizes (system 2)) [] (string cues ++ (0 ∷ 0 ∷ [])) in
+    let n = long-length (blockSizes (system 2)) [] (string cues ++ (0 ∷ 0 ∷ [])) (f .roomy) in (
+      scatter (runs (system 2)) us area,
+      scatter-length (areaSize (system 2)) (runs (system 2)) us area (f .within) (omega arith) l,
+      five-laid cues (0 ∷ 0 ∷ []) area (one (good (0 ∷ []) (omega arith) few) (all-good 1274)) (ap suc (length-replicate 1274 (cue [])))
+          (omega arith) refl l,
+      omega arith,
+    )
+  where
+    cue : List ℕ → Item
+    cue user = written (record { did = 0x61; sdid = 0x01; user = user; line = 0; flags = 0 })
+
+    cues : List Item
+    cues = cue (0 ∷ []) ∷ replicate 1274 (cue [])
+
+    few : Bytes (0 ∷ [])
+    few zero = omega arith
+    few (suc i) = omega arith
+
+    good : (user : List ℕ) → length user < 256 → Bytes user → Good (system 2) (cue user)
+    good user m b =
+        record {
+          sound =
+              record { did = omega arith; sdid = omega arith; many = m; user = b; line = leb·zero (system 2 .last); flags = omega arith };
+          bits = omega arith;
+          third = omega arith;
+          junk = omega arith;
+          starter = omega arith;
+        }
+
+    all-good : (n : ℕ) → All (Good (system 2)) (replicate n (cue []))
+    all-good zero = none
+    all-good (suc n) = one (good [] (omega arith) (λ i. omega arith)) (all-good n)
+
+    no-users : (n : ℕ) → userCount (packetsOf (replicate n (cue []))) ≡ 0
+    no-users zero = refl
+    no-users (suc n) = let k = no-users n in omega arith
