@@ -28,6 +28,16 @@
  *
  * Packets and locations count from 0. Where several apply, the tests are made in a fixed order and the first is named.
  *
+ * 7 to 10 also name a `word` of the packet: the first at fault. Words count from 0 too, the flag's included: 0 to 2 are 000h 3FFh 3FFh, 3 is
+ * DID, 4 SDID or DBN, 5 DC, 6 + i user word i, and DC + 6 is CS.
+ *
+ *    7  the first of the flag's words that is wrong; where none is, the first word that is missing
+ *    8  the word that is not its byte with parity
+ *    9  the first word that is missing: as many as are left
+ *   10  CS
+ *
+ * For every other number, and for 0, `word` is 0.
+ *
  * No packets that fit a frame are more than 1,275. So 5 is given: for a sheet, where its P is over 1,275; for an element, where its number
  * of packets is; and of areas only for one of 1080/50i in packing 2 in which 1,275 packets, with at most two user words together, are
  * followed by one to three bytes that are not all FFh. It is never given for packing 1, nor for an area of 1080/60i or 720/60p.
@@ -47,9 +57,14 @@
 extern "C" {
 #endif
 
-/* This version, and as one number for #if: 10000 x major + 100 x minor + patch. */
-#define VANC_VERSION "0.3.0"
-#define VANC_VERSION_NUMBER 300
+/*
+ * This version, and as one number for #if: 10000 x major + 100 x minor + patch.
+ *
+ * Since 0.4.0 `word` stands behind `place` in vanc_laid and vanc_element_written, which have grown from 32 to 40 bytes: what was compiled with
+ * an older header has to be compiled with this one before it is linked with this library.
+ */
+#define VANC_VERSION "0.4.0"
+#define VANC_VERSION_NUMBER 400
 
 /* The toolchain that all was proved with. */
 #define VANC_TOOLCHAIN "rattle-kit-5b-plain logic 097e4c862dff5811"
@@ -141,10 +156,18 @@ static inline const char *vanc_refusal_text(uint64_t number)
     }
 }
 
+/* What the test of a packet gives back. */
+typedef struct {
+    uint64_t number; /* 0, or 7 to 10 */
+    uint64_t word;   /* the first word at fault; 0 where there is none */
+    uint64_t kind;   /* the packet's type: 1 (DID 80h or above) or 2; on refusal 0 */
+} vanc_judged;
+
 /* What laying gives back. On refusal packs and bytes are 0. */
 typedef struct {
     uint64_t number;
     uint64_t place;
+    uint64_t word;  /* 7 to 10: the first word at fault of the packet; else 0 */
     uint64_t packs; /* packs laid */
     uint64_t bytes; /* string bytes: those of all packets */
 } vanc_laid;
@@ -169,6 +192,7 @@ typedef struct {
 typedef struct {
     uint64_t number;
     uint64_t place;
+    uint64_t word;    /* 7 to 10: the first word at fault of the packet; else 0 */
     uint64_t packets; /* packets served */
     uint64_t bytes;   /* the element's length */
 } vanc_element_written;
@@ -180,6 +204,14 @@ typedef struct {
     uint64_t packets;
     uint64_t numbers; /* the sheet's length */
 } vanc_element_read;
+
+/*
+ * Tests the packet that the words begin with: 000h 3FFh 3FFh, DID, SDID or DBN, DC, DC user words, CS. Words behind its CS are not looked at.
+ *
+ * Success: `kind` says whether the packet is of type 1, with DID 80h or above and a DBN, or of type 2, with an SDID. Refusal (7 to 10): `word`
+ * is the first at fault. The words are only read.
+ */
+vanc_judged vanc_test_packet(const uint16_t *words, size_t words_len);
 
 /*
  * Lays a sheet's packets into an area. The sheet is in the machine's own order of bytes: 1, system; P, then P pairs of line (0 for
