@@ -4,7 +4,7 @@
 -- Assumes nothing.
 use Prim.Native.Nat.{ℕ, zero, suc, _+_, _-_, _*_, _/_, _%_, _≤_, _<_}
 use mathlib.Core.Path.{_≡_, refl, ap, sym, _∙_}
-use mathlib.Core.Bool.{Bool, true, false, _&&_, and-assoc}
+use mathlib.Core.Bool.{Bool, true, false, _&&_}
 use mathlib.Core.List.{List, [], _∷_, _++_}
 use native.Mathlib.Omega.{arith}
 use native.Mathlib.Nat.{add-comm, add-zero, zero-add}
@@ -17,6 +17,7 @@ use borrow.Author.Tests.{eq-eqb, ne-eqb, eqb-true}
 use Rattle.rules.specs.Packet.{parity, word, sum9, check}
 use Rattle.rules.specs.Laying.{isWord, areWords}
 use Rattle.rules.proofs.Basics.{both, rest-part, copy-turn, copy-full}
+use Rattle.rules.proofs.Words.{words-append}
 use Rattle.packet.specs.Run.{passOf, wordsFrom, wordTable}
 use Rattle.packet.specs.declared.Pass.{Pass}
 
@@ -109,10 +110,6 @@ sum9-end i ws h = rw (drop-of-length-le ws h)
 sum9-append : (vs ws : List ℕ) → sum9 (vs ++ ws) ≡ sum9 vs + sum9 ws
 sum9-append [] ws = omega arith
 sum9-append (v ∷ vs) ws = omega (arith, sum9-append vs ws)
-
-words-append : (vs ws : List ℕ) → areWords (vs ++ ws) ≡ (areWords vs && areWords ws)
-words-append [] ws = refl
-words-append (v ∷ vs) ws = rw (words-append vs ws) (sym (and-assoc (isWord v) (areWords vs) (areWords ws)))
 
 part-joined : (n at : ℕ) (ws : List ℕ) → take n (drop at ws) ++ drop (at + n) ws ≡ drop at ws
 part-joined n at ws = rw (← drop-drop n at ws) (take-append-drop n (drop at ws))

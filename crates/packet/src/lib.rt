@@ -1,11 +1,14 @@
-// The ten-bit words of a packet (document 01, "The packet"; SMPTE 291): the word of a byte, CS, and the tests 7 to 10.
+// The ten-bit words of a packet (document 01, "The packet"; SMPTE 291): the word of a byte, CS, the tests 7 to 10, and the word that they name.
 // What each function gives is a definition of the crate rules.
 ghost use mathlib.Core.Path.{_≡_};
 ghost use Prim.Native.Nat.{_+_, _-_, _*_, _/_, _%_, _≤_, _<_};
-ghost use lib.ListN.{length};
+ghost use lib.ListN.{length, drop};
 ghost use Rattle.rules.specs.Packet.{word, check};
-ghost use Rattle.rules.specs.Laying.{wordsFault};
+ghost use Rattle.rules.specs.Laying.{wordsFault, dcIn, wordsBefore, flagWord, wordAt, faultOf, typeOf};
+ghost use Rattle.rules.specs.Demands.{Judges};
 ghost use Rattle.packet.specs.Run.{passOf, runOf, wordTable, Passed};
+use rules::Fault;
+use rules::Judged;
 
 // Bit 8 makes the count of ones even, and bit 9 is its inverse (SMPTE 291).
 // The eight bits are folded onto one, without a table or a branch, since this is done for every word.
@@ -172,9 +175,8 @@ fn pass_by(table: &[u16; 256], ws: &[u16]) -> Pass
 }
 
 // The number of the first fault of the packet that the words begin with, 0 for none, in document 01's order.
-// The whole sums of the two passes are added for CS, so that no word is summed twice. The table is lent, so that a caller with many
-// packets makes it once; with any other table the answer says nothing.
-pub fn fault_by(table: &[u16; 256], ws: &[u16]) -> u64
+// The whole sums of the two passes are added for CS, so that no word is summed twice.
+fn number_by(table: &[u16; 256], ws: &[u16]) -> u64
     ensures { λ r. ⌜ (now (table .entry) ≡ wordTable → r ≡ wordsFault (now (ws .entry))) ⌝ }
 {
     if ws.len() < 7 || ws[0] != 0x000 || ws[1] != 0x3FF || ws[2] != 0x3FF {
@@ -198,10 +200,99 @@ pub fn fault_by(table: &[u16; 256], ws: &[u16]) -> u64
     0
 }
 
-// The same of one packet alone.
-pub fn fault(ws: &[u16]) -> u64
-    ensures { λ r. ⌜ r ≡ wordsFault (now (ws .entry)) ⌝ }
+// "the first wrong flag word, else the first missing word" (document 02, A2).
+fn flag_word(ws: &[u16]) -> usize
+    ensures { λ r. ⌜ r ≡ flagWord (now (ws .entry)) ⌝ }
+{
+    if ws.len() == 0 || ws[0] != 0x000 {
+        return 0;
+    }
+    if ws.len() == 1 || ws[1] != 0x3FF {
+        return 1;
+    }
+    if ws.len() == 2 || ws[2] != 0x3FF {
+        return 2;
+    }
+    ws.len()
+}
+
+// The first word from DID on that is not the word of its low byte.
+fn wrong_word(ws: &[u16]) -> usize
+    ensures { λ r. ⌜ r ≡ 3 + wordsBefore (drop 3 (now (ws .entry))) ⌝ }
+{
+    let mut i = 3;
+    while i < ws.len() {
+        let w = ws[i];
+        if w != with_parity(w % 256) {
+            return i;
+        }
+        i += 1;
+    }
+    i
+}
+
+// DC; 0 where the words end before it.
+fn dc_of(ws: &[u16]) -> usize
+    ensures { λ r. ⌜ r ≡ dcIn (now (ws .entry)) ⌝ }
+{
+    if ws.len() < 6 {
+        return 0;
+    }
+    low_byte(ws[5])
+}
+
+// The word that the number of a packet's fault names. CS stands behind DC and the user words.
+fn word_at(number: u64, ws: &[u16]) -> u64
+    ensures { λ r. ⌜ r ≡ wordAt number (now (ws .entry)) ⌝ }
+{
+    match number {
+        7 => flag_word(ws) as u64,
+        8 => wrong_word(ws) as u64,
+        9 => ws.len() as u64,
+        10 => dc_of(ws) as u64 + 6,
+        _ => 0,
+    }
+}
+
+// The first fault of the packet that the words begin with. The word is looked for only once the packet is refused, so that one without a
+// fault costs no more. The table is lent, so that a caller with many packets makes it once; with any other table the answer says nothing.
+pub fn fault_by(table: &[u16; 256], ws: &[u16]) -> Fault
+    ensures { λ r. ⌜ (now (table .entry) ≡ wordTable → r ≡ faultOf (now (ws .entry))) ⌝ }
+{
+    let number = number_by(table, ws);
+    if number == 0 {
+        return Fault { number: 0, word: 0 };
+    }
+    let word = word_at(number, ws);
+    Fault { number, word }
+}
+
+// "Type 1 (DID 80h or above) or Type 2" (document 02, A2).
+fn type_of(did: u16) -> u64
+    ensures { λ r. ⌜ r ≡ typeOf (did % 256) ⌝ }
+{
+    if did % 256 < 0x80 {
+        return 2;
+    }
+    1
+}
+
+// The test of one packet alone, which also says its type (document 02, A2).
+pub fn fault(ws: &[u16]) -> Judged
+    ensures { λ r. ⌜ Judges (now (ws .entry)) r ⌝ }
 {
     let table = words();
-    fault_by(&table, ws)
+    let f = fault_by(&table, ws);
+    if f.number != 0 {
+        return Judged {
+            number: f.number,
+            word: f.word,
+            kind: 0,
+        };
+    }
+    Judged {
+        number: 0,
+        word: 0,
+        kind: type_of(ws[3]),
+    }
 }

@@ -16,12 +16,12 @@ use Rattle.rules.specs.Base.{sum}
 use Rattle.rules.specs.Systems.{System, known, system}
 use Rattle.rules.specs.Packet.{Packet}
 use Rattle.rules.specs.Danc.{written, packetsOf}
-use Rattle.rules.specs.Sheet.{systemIn}
+use Rattle.rules.specs.Sheet.{systemIn, wordsIn}
 use Rattle.rules.specs.Blocks.{runs, blockSizes, areaSize, scatter, userBytesIn}
 use Rattle.rules.specs.Packings.{isPacking, laidBytes, fits, packsLaid, packsIn}
 use Rattle.rules.specs.Numbers.{Outcome, listed, refused, unless, andThen}
-use Rattle.rules.specs.Laying.{shaped, listTests, sheetTests, laying, laidOf, areaOf, lay, areaAfter}
-use Rattle.rules.specs.Lister.{testedOf, tested}
+use Rattle.rules.specs.Laying.{wordAt, wordIn, shaped, listTests, sheetTests, laying, laidOf, laidWith, areaOf, lay, areaAfter}
+use Rattle.rules.specs.Lister.{testedOf, testedWith, tested}
 use Rattle.rules.specs.Demands.{SheetOf, Tests, Asked, Success, Unlaid, Lays}
 use Rattle.rules.specs.declared.Laid.{Laid}
 use Rattle.rules.specs.declared.Tested.{Tested}
@@ -147,7 +147,7 @@ module _ (k sys : ℕ) (ps : List Packet) (s area : List ℕ) (a : Asked k sys p
 
 -- the contract of laying follows from its first two fields
 pub lays : (k : ℕ) (s area : List ℕ) (r : Laid) (after : List ℕ) → r ≡ lay k s area → after ≡ areaAfter k s area → Lays k s area r after
-unfolding lay areaAfter
+unfolding lay areaAfter wordAt
 lays k s area r after er ea =
     record {
       answer = er;
@@ -164,7 +164,8 @@ lays k s area r after er ea =
     y : System
     y = system (systemIn s)
 
-    unlaid : (o : Outcome) → r ≡ laidOf k y o → after ≡ areaOf k y area o → (r .number ≡ 0 → ⊥) → Unlaid r area after
+    unlaid : (o : Outcome) → r ≡ laidWith (wordIn (wordsIn s) o) (laidOf k y o) → after ≡ areaOf k y area o → (r .number ≡ 0 → ⊥)
+        → Unlaid r area after
     unlaid (listed ps) p q n = absurd (n (ap (λ (x : Laid). x .number) p))
     unlaid (refused m i) p q n = record { kept = q; packs = ap (λ (x : Laid). x .packs) p; bytes = ap (λ (x : Laid). x .bytes) p }
 
@@ -185,12 +186,15 @@ lays k s area r after er ea =
 module _ (k : ℕ) (s area : List ℕ) where
   -- the two fields of the contract, from the outcome
   abbrev pub Lain : Laid → List ℕ → Outcome → Type 0
-  Lain r after o = (r ≡ laidOf k (system (systemIn s)) o) × (after ≡ areaOf k (system (systemIn s)) area o)
+  Lain r after o =
+      (r ≡ laidWith (wordIn (wordsIn s) o) (laidOf k (system (systemIn s)) o)) × (after ≡ areaOf k (system (systemIn s)) area o)
 
   pub lays-outcome : (r : Laid) (after : List ℕ) (o : Outcome) → laying k s area ≡ o → Lain r after o → Lays k s area r after
   unfolding lay areaAfter
   lays-outcome r after o e w =
-      lays k s area r after (w .0 ∙ sym (ap (laidOf k (system (systemIn s))) e)) (w .1 ∙ sym (ap (areaOf k (system (systemIn s)) area) e))
+      lays k s area r after
+      (w .0 ∙ sym (ap (λ (o : Outcome). laidWith (wordIn (wordsIn s) o) (laidOf k (system (systemIn s)) o)) e))
+      (w .1 ∙ sym (ap (areaOf k (system (systemIn s)) area) e))
 
   -- 1: the packing
   pub refuses-packing : isPacking k ≡ false → laying k s area ≡ refused 1 0
@@ -231,10 +235,11 @@ module _ (k : ℕ) (s area : List ℕ) where
         unfolding laying tested sheetTests
         refuses-list n0 =
             let v = past-system in
-            let a : t ≡ testedOf (systemIn s) (listTests (system (systemIn s)) s) = w .answer ∙ rw (v .0, v .1) in
-            rw (p, v .0, v .1, eq-eqb (length area) (areaSize (system (systemIn s))) l) (go (listTests (system (systemIn s)) s) a)
+            let y = system (systemIn s) in
+            let a : t ≡ testedWith (wordIn (wordsIn s) (listTests y s)) (testedOf (systemIn s) (listTests y s)) = w .answer ∙ rw (v .0, v .1) in
+            rw (p, v .0, v .1, eq-eqb (length area) (areaSize y) l) (go (listTests y s) a)
           where
-            go : (o : Outcome) → t ≡ testedOf (systemIn s) o
+            go : (o : Outcome) → t ≡ testedWith (wordIn (wordsIn s) o) (testedOf (systemIn s) o)
                 → andThen o (λ (ps : List Packet). unless 12 (fits k (blockSizes (system (systemIn s))) ps) (listed ps))
                 ≡ refused (t .number) (t .place)
             go (listed ps) e = absurd (n0 (ap (λ (x : Tested). x .number) e))

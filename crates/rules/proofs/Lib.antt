@@ -3,6 +3,7 @@ pub mod Basics
 pub mod Figures
 pub mod Rows
 pub mod Words
+pub mod Judging
 pub mod Strings
 pub mod Long
 pub mod Blocks

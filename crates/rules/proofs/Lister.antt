@@ -1,6 +1,6 @@
 -- The lister: what its tests give back meets the contract `Tests`, and a sheet is the same in memory and in a file.
 --
--- In order: the contract (`tests`); the figures of its first line; files (`file-read`, `listing-read`, `listing-laid`).
+-- In order: the contract (`tests`); the word of a refusal; the figures of its first line; files (`file-read`, `listing-read`, `listing-laid`).
 -- Assumes nothing.
 use Prim.Native.Nat.{ℕ, _+_, _*_, _/_, _%_, _≤_}
 use mathlib.Core.Path.{_≡_, refl, sym, ap, ap₂, _∙_}
@@ -14,11 +14,11 @@ use Rattle.rules.specs.Base.{joined, sum}
 use Rattle.rules.specs.Systems.{known, system}
 use Rattle.rules.specs.Packet.{Packet}
 use Rattle.rules.specs.Danc.{written, string, stringBytes}
-use Rattle.rules.specs.Sheet.{systemIn}
+use Rattle.rules.specs.Sheet.{systemIn, wordsIn}
 use Rattle.rules.specs.Packing1.{packs, packsOf}
 use Rattle.rules.specs.Numbers.{Outcome, listed, refused, unless}
-use Rattle.rules.specs.Laying.{shaped, sheetTests}
-use Rattle.rules.specs.Lister.{testedOf, tested, fileOf, numbersOf, listing}
+use Rattle.rules.specs.Laying.{wordAt, fromPacket, wordIn, shaped, sheetTests}
+use Rattle.rules.specs.Lister.{testedOf, testedWith, tested, fileOf, numbersOf, listing}
 use Rattle.rules.specs.Demands.{SheetOf, Tests}
 use Rattle.rules.specs.declared.Tested.{Tested}
 use Rattle.rules.proofs.Basics.{never, both, written-back}
@@ -50,6 +50,19 @@ tests s r e =
         → (sys : ℕ) × (ps : List Packet) × SheetOf sys ps s
     only (refused m i) q p n = let h = sheet-refused s m i q in absurd (omega arith)
     only (listed ps) q p n = (systemIn s, ps, sheet-laid s ps q)
+
+-- a refusal's word is the one that its number and place name
+pub word-told : (s : List ℕ) (t : Tested) → Tests s t → (t .number ≡ 0 → ⊥) → t .word ≡ wordIn (wordsIn s) (refused (t .number) (t .place))
+unfolding tested
+word-told s t w n = go (sheetTests s) (w .answer)
+  where
+    go : (o : Outcome) → t ≡ testedWith (wordIn (wordsIn s) o) (testedOf (systemIn s) o)
+        → t .word ≡ wordIn (wordsIn s) (refused (t .number) (t .place))
+    go (listed ps) e = absurd (n (ap (λ (x : Tested). x .number) e))
+    go (refused m i) e =
+        let number : t .number ≡ m = ap (λ (x : Tested). x .number) e in
+        let place : t .place ≡ i = ap (λ (x : Tested). x .place) e in
+        ap (λ (x : Tested). x .word) e ∙ sym (ap₂ (λ (n j : ℕ). wordAt n (fromPacket j (wordsIn s))) number place)
 
 -- the bytes and packs that the first line counts are those that laying would lay
 pub bytes-counted : (ps : List Packet) → stringBytes ps ≡ length (string (map written ps))

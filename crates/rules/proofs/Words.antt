@@ -4,7 +4,7 @@
 -- Assumes nothing.
 use Prim.Native.Nat.{ℕ, zero, suc, _+_, _-_, _*_, _%_, _≤_, _<_}
 use mathlib.Core.Path.{_≡_, refl, sym, ap, ap₂, _∙_, subst}
-use mathlib.Core.Bool.{Bool, true, false, cond, not, _&&_, _||_}
+use mathlib.Core.Bool.{Bool, true, false, cond, not, _&&_, _||_, and-assoc}
 use mathlib.Core.List.{List, [], _∷_, _++_, map, append-assoc, append-nil}
 use native.Mathlib.Omega.{arith}
 use native.Mathlib.Numerals.{add-three, add-seven}
@@ -43,6 +43,10 @@ word-is w e = sym (eqb-true w (word (low w)) e)
 are-words : (bs : List ℕ) → Bytes bs → areWords (map word bs) ≡ true
 are-words [] h = refl
 are-words (b ∷ bs) h = rw (is-word b (h 0)) (are-words bs (λ i. h (suc i)))
+
+pub words-append : (vs ws : List ℕ) → areWords (vs ++ ws) ≡ (areWords vs && areWords ws)
+words-append [] ws = refl
+words-append (v ∷ vs) ws = rw (words-append vs ws) (sym (and-assoc (isWord v) (areWords vs) (areWords ws)))
 
 -- the low bytes of bytes' words are the bytes
 pub map-low : (bs : List ℕ) → Bytes bs → map low (map word bs) ≡ bs
@@ -106,7 +110,7 @@ module _ (y : System) (p : Packet) (r : List ℕ) (g : Sound y p) where
   length-back : length s ≡ length (p .user) + 7 + length r
   length-back = let k = packet-words p in let l = length-append (words p) r in omega arith
 
-  fault-back : wordRow .fault s ≡ 0
+  pub fault-back : wordRow .fault s ≡ 0
   unfolding wordRow wordsFault words coded
   fault-back =
       let k = length-back in
@@ -202,7 +206,7 @@ module _ (x y z a b n : ℕ) (t : List ℕ) where
       swap m = omega arith
 
 -- a front without a fault is a sound packet's words
-words-uncut : (sys : System) (s : List ℕ) → Unit {0} → wordRow .fault s ≡ 0
+pub words-uncut : (sys : System) (s : List ℕ) → Unit {0} → wordRow .fault s ≡ 0
     → (x : Packet) × (bare x ≡ wordRow .packet s) × (s ≡ words x ++ wordRow .rest s) × Sound sys x
 unfolding wordRow wordsFault
 words-uncut sys [] h q = never (cc)

@@ -1,29 +1,42 @@
 -- The demands that stand over everything, as the contracts of laying and reading. A contract's first two fields say the whole
 -- result by one equation each, so no second result fits; the others say what a caller may rely on without knowing the tests.
 --
--- In order: the sheet; laying (demands 1 and 2); reading (demands 1 and 3).
+-- In order: the packet; the sheet; laying (demands 1 and 2); reading (demands 1 and 3).
 -- Assumes nothing.
-use Prim.Native.Nat.{ℕ, _≤_}
+use Prim.Native.Nat.{ℕ, _+_, _-_, _≤_, _<_}
 use mathlib.Core.Path.{_≡_}
 use mathlib.Core.Logic.{_⊎_}
 use mathlib.Core.Bool.{true, false}
-use mathlib.Core.List.{List, [], _∷_}
-use lib.ListN.{length, getD}
+use mathlib.Core.List.{List, [], _∷_, _++_}
+use lib.ListN.{length, getD, take, drop}
 use Rattle.rules.specs.Base.{All}
 use Rattle.rules.specs.Systems.{System, known, system}
-use Rattle.rules.specs.Packet.{Packet, Sound}
+use Rattle.rules.specs.Packet.{Packet, words, Sound}
 use Rattle.rules.specs.Danc.{Item, Good, packetsOf, stringBytes}
 use Rattle.rules.specs.Sheet.{limit, sheetOf}
 use Rattle.rules.specs.Blocks.{runs, blockSizes, areaSize, userBytesIn, outside}
 use Rattle.rules.specs.Packing2.{Spare, Spares}
 use Rattle.rules.specs.Packings.{isPacking, userBytes, laidBytes, fits, packsLaid, packsIn, mostPacks}
 use Rattle.rules.specs.Numbers.{listed, refused}
-use Rattle.rules.specs.Laying.{laidOf, lay, areaAfter}
+use Rattle.rules.specs.Laying.{isWord, areWords, dcIn, typeOf, judged, laidOf, lay, areaAfter}
 use Rattle.rules.specs.Reading.{readBackOf, bufferOf, read, bufferAfter}
 use Rattle.rules.specs.Lister.{testedOf, tested}
+use Rattle.rules.specs.declared.Judged.{Judged}
 use Rattle.rules.specs.declared.Laid.{Laid}
 use Rattle.rules.specs.declared.ReadBack.{ReadBack}
 use Rattle.rules.specs.declared.Tested.{Tested}
+
+-- ---- the packet
+
+-- the contract of the test of a packet: words that begin with those of a sound packet pass, and say its type; no others pass. "8": the word that is
+-- named stands between the flag and CS and is wrong, and none between the flag and it is
+pub record Judges (s : List ℕ) (r : Judged) : Type 0 where
+  pub answer : r ≡ judged s
+  pub passes : (y : System) (p : Packet) (rest : List ℕ) → Sound y p → s ≡ words p ++ rest
+      → r ≡ record { number = 0; word = 0; kind = typeOf (p .did) }
+  pub only : r .number ≡ 0 → (y : System) → (p : Packet) × (rest : List ℕ) × Sound y p × (s ≡ words p ++ rest)
+  pub wrong : r .number ≡ 8
+      → (3 ≤ r .word) × (r .word < dcIn s + 6) × (isWord (getD s (r .word) 0) ≡ false) × (areWords (take (r .word - 3) (drop 3 s)) ≡ true)
 
 -- ---- the sheet
 

@@ -1,8 +1,8 @@
 -- "Numbers given back": the tests of a sheet, and what laying gives back.
 --
--- In order: the words of a packet (7 to 10); the sheet (2, 5, 6, 11); the lister's tests; laying's (1, 4, 12); its answer.
+-- In order: the words of a packet (7 to 10); the word that is named; the sheet (2, 5, 6, 11); the lister's tests; laying's (1, 4, 12); its answer.
 -- Assumes nothing.
-use Prim.Native.Nat.{ℕ, suc, _+_, _*_, _%_}
+use Prim.Native.Nat.{ℕ, zero, suc, _+_, _*_, _%_}
 use mathlib.Core.Bool.{Bool, true, false, cond, not, _&&_, _||_}
 use mathlib.Core.List.{List, [], _∷_, map}
 use lib.Dec.{eqb, ltb, leb}
@@ -14,6 +14,8 @@ use Rattle.rules.specs.Sheet.{limit, systemIn, countIn, locationsIn, wor
 use Rattle.rules.specs.Blocks.{runs, blockSizes, areaSize, scatter}
 use Rattle.rules.specs.Packings.{isPacking, laidBytes, fits, packsLaid}
 use Rattle.rules.specs.Numbers.{Outcome, listed, refused, unless, andThen, Row, packetsIn}
+use Rattle.rules.specs.declared.Fault.{Fault}
+use Rattle.rules.specs.declared.Judged.{Judged}
 use Rattle.rules.specs.declared.Laid.{Laid}
 
 -- ---- the words of a packet
@@ -61,6 +63,62 @@ wordRow = record { ends = noWords; fault = wordsFault; packet = packetOfWords; r
 -- "W words: packets back to back". There are never more packets than words
 unfoldable pub packetsOfWords : List ℕ → Outcome
 packetsOfWords ws = packetsIn wordRow (length ws) 0 ws
+
+-- ---- the word that is named (document 02, A2)
+
+-- how many words stand in front of the first that is not "its low byte with right bits above"
+abbrev pub wordsBefore : List ℕ → ℕ
+wordsBefore [] = 0
+wordsBefore (w ∷ ws) = cond (isWord w) (suc (wordsBefore ws)) 0
+
+-- how many words agree with these, from the first on
+abbrev pub agreeing : List ℕ → List ℕ → ℕ
+agreeing [] s = 0
+agreeing (f ∷ fs) [] = 0
+agreeing (f ∷ fs) (w ∷ s) = cond (eqb w f) (suc (agreeing fs s)) 0
+
+-- "the first wrong flag word, else the first missing word": the word behind those that agree with 000h 3FFh 3FFh is wrong or missing; where all
+-- three do, it is the one behind the last that is there
+unfoldable pub flagWord : List ℕ → ℕ
+flagWord s = let n : ℕ = agreeing (0x000 ∷ 0x3FF ∷ 0x3FF ∷ []) s in cond (ltb n 3) n (length s)
+
+-- "which of its words, from 0, is the first at fault": the number that a packet is refused with decides it. "For 7 it is the first wrong flag word,
+-- else the first missing word; for 9 the first missing"; for 8 the first, from DID on, that is no word; for 10 CS; "for refusals other than 7 to 10
+-- it is 0"
+unfoldable pub wordAt : ℕ → List ℕ → ℕ
+wordAt n s =
+    cond (eqb n 7) (flagWord s)
+    (cond (eqb n 8) (3 + wordsBefore (drop 3 s))
+    (cond (eqb n 9) (length s)
+    (cond (eqb n 10) (dcIn s + 6)
+    0)))
+
+-- the first fault of the packet at the front: its number, and the word that the number names
+abbrev pub faultOf : List ℕ → Fault
+faultOf s = record { number = wordsFault s; word = wordAt (wordsFault s) s }
+
+-- "Type 1 (DID 80h or above) or Type 2"
+abbrev pub typeOf : ℕ → ℕ
+typeOf did = cond (leb 0x80 did) 1 2
+
+-- "The test of a packet shall also say which of its words .. is the first at fault, and on success whether the packet is Type 1 .. or Type 2."
+unfoldable pub judged : List ℕ → Judged
+judged s =
+    record {
+      number = faultOf s .number;
+      word = faultOf s .word;
+      kind = cond (eqb (wordsFault s) 0) (typeOf (low (getD s 3 0))) 0;
+    }
+
+-- the words from packet i on
+abbrev pub fromPacket : ℕ → List ℕ → List ℕ
+fromPacket zero ws = ws
+fromPacket (suc i) ws = fromPacket i (drop (dcIn ws + 7) ws)
+
+-- the word of a refusal, where its place counts the packets of these words
+abbrev pub wordIn : List ℕ → Outcome → ℕ
+wordIn ws (listed ps) = 0
+wordIn ws (refused n i) = wordAt n (fromPacket i ws)
 
 -- ---- the sheet
 
@@ -112,8 +170,12 @@ laying k s area =
 
 -- "Laying returns number, place, packs laid and string bytes." "On refusal the later figures are 0 and the area .. is unchanged."
 abbrev pub laidOf : ℕ → System → Outcome → Laid
-laidOf k y (listed ps) = record { number = 0; place = 0; packs = packsLaid k (blockSizes y) ps; bytes = stringBytes ps }
-laidOf k y (refused n i) = record { number = n; place = i; packs = 0; bytes = 0 }
+laidOf k y (listed ps) = record { number = 0; place = 0; word = 0; packs = packsLaid k (blockSizes y) ps; bytes = stringBytes ps }
+laidOf k y (refused n i) = record { number = n; place = i; word = 0; packs = 0; bytes = 0 }
+
+-- "Laying and the lister pass the word on after the place"
+abbrev pub laidWith : ℕ → Laid → Laid
+laidWith w r = record { number = r .number; place = r .place; word = w; packs = r .packs; bytes = r .bytes }
 
 abbrev pub areaOf : ℕ → System → List ℕ → Outcome → List ℕ
 areaOf k y area (listed ps) = scatter (runs y) (laidBytes k (blockSizes y) ps) area
@@ -121,7 +183,7 @@ areaOf k y area (refused n i) = area
 
 -- what laying gives back, and the area afterwards
 unfoldable pub lay : ℕ → List ℕ → List ℕ → Laid
-lay k s area = laidOf k (system (systemIn s)) (laying k s area)
+lay k s area = laidWith (wordIn (wordsIn s) (laying k s area)) (laidOf k (system (systemIn s)) (laying k s area))
 
 unfoldable pub areaAfter : ℕ → List ℕ → List ℕ → List ℕ
 areaAfter k s area = areaOf k (system (systemIn s)) area (laying k s area)

@@ -8,20 +8,25 @@ use lib.ListN.{length}
 use Rattle.rules.specs.Base.{sum}
 use Rattle.rules.specs.Packet.{Packet}
 use Rattle.rules.specs.Danc.{stringBytes}
-use Rattle.rules.specs.Sheet.{systemIn}
+use Rattle.rules.specs.Sheet.{systemIn, wordsIn}
 use Rattle.rules.specs.Packing1.{packsOf}
 use Rattle.rules.specs.Numbers.{Outcome, listed, refused, unless}
-use Rattle.rules.specs.Laying.{sheetTests}
+use Rattle.rules.specs.Laying.{sheetTests, wordIn}
 use Rattle.rules.specs.declared.Tested.{Tested}
 
 -- "Header: system, packets, string bytes, packs in packing 1." Or a refusal
 abbrev pub testedOf : ℕ → Outcome → Tested
 testedOf sys (listed ps) =
-    record { number = 0; place = 0; system = sys; packets = length ps; bytes = stringBytes ps; packs = sum (map packsOf ps) }
-testedOf sys (refused n i) = record { number = n; place = i; system = 0; packets = 0; bytes = 0; packs = 0 }
+    record { number = 0; place = 0; word = 0; system = sys; packets = length ps; bytes = stringBytes ps; packs = sum (map packsOf ps) }
+testedOf sys (refused n i) = record { number = n; place = i; word = 0; system = 0; packets = 0; bytes = 0; packs = 0 }
+
+-- "Laying and the lister pass the word on after the place" (document 02, A2)
+abbrev pub testedWith : ℕ → Tested → Tested
+testedWith w t =
+    record { number = t .number; place = t .place; word = w; system = t .system; packets = t .packets; bytes = t .bytes; packs = t .packs }
 
 unfoldable pub tested : List ℕ → Tested
-tested s = testedOf (systemIn s) (sheetTests s)
+tested s = testedWith (wordIn (wordsIn s) (sheetTests s)) (testedOf (systemIn s) (sheetTests s))
 
 abbrev pub firstLine : Tested → List ℕ
 firstLine r = r .system ∷ r .packets ∷ r .bytes ∷ r .packs ∷ []

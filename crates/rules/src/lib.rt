@@ -1,11 +1,27 @@
 // The rules of the build. What a reader must believe is in specs/, what follows from it in proofs/.
 // Here are only the shapes of what the calls give back ("Numbers given back"), so that code and rules speak of one type.
 
-// What laying gives back. Number 0 is success; on refusal packs and bytes are 0.
+// A packet's first fault: its number, 0 for none, and the word that it names (document 02, A2).
+#[repr(C)]
+pub struct Fault {
+    pub number: u64,
+    pub word: u64,
+}
+
+// What the test of a packet gives back: the first word at fault (document 02, A2), or the packet's type, 1 or 2. On refusal kind is 0.
+#[repr(C)]
+pub struct Judged {
+    pub number: u64,
+    pub word: u64,
+    pub kind: u64,
+}
+
+// What laying gives back. Number 0 is success; on refusal packs and bytes are 0. 7 to 10 name a word of the packet; else word is 0.
 #[repr(C)]
 pub struct Laid {
     pub number: u64,
     pub place: u64,
+    pub word: u64,
     pub packs: u64,
     pub bytes: u64,
 }
@@ -28,11 +44,12 @@ pub struct Step {
     pub length: u64,
 }
 
-// What the lister's tests give back: a refusal, or the figures of its first line.
+// What the lister's tests give back: a refusal, with its word, or the figures of its first line.
 #[repr(C)]
 pub struct Tested {
     pub number: u64,
     pub place: u64,
+    pub word: u64,
     pub system: u64,
     pub packets: u64,
     pub bytes: u64,

@@ -1,4 +1,4 @@
--- `packet::fault_by` meets its contract. With the right table each test that is passed leaves the later ones of `wordsFault`, and CS is
+-- `packet::number_by` meets its contract. With the right table each test that is passed leaves the later ones of `wordsFault`, and CS is
 -- over both runs (`check-parts`). Assumes nothing.
 use Prim.Native.Nat.{ℕ, _+_, _-_}
 use mathlib.Core.Path.{_≡_, sym, _∙_, subst}
@@ -14,8 +14,8 @@ use Rattle.rules.specs.Packet.{sum9, check}
 use Rattle.rules.specs.Laying.{areWords, dcIn, wordsFault}
 use Rattle.packet.specs.Run.{wordTable, Passed}
 use Rattle.packet.proofs.Laws.{sum9-most, check-parts}
-use Rattle.packet.proofs.fault_by.Statement.{statement}
-use Rattle.packet.proofs.fault_by.Tie as tie
+use Rattle.packet.proofs.number_by.Statement.{statement}
+use Rattle.packet.proofs.number_by.Tie as tie
 
 -- ---- the tests that are left: after the user words, after 9, after DID, SDID and DC, after the flag
 
@@ -223,8 +223,8 @@ returns-5 c = λ h. rw (past-user (c .before .before .before .before .before) h,
 returns-6 : tie.Need-returns-6
 returns-6 c = λ h. rw (past-user (c .before .before .before .before .before) h, checked (c .before), eq-eqb _ _ (c .if8 .left))
 
-pub fault-by-spec : {M : Type 1} → statement M
-fault-by-spec =
+pub number-by-spec : {M : Type 1} → statement M
+number-by-spec =
     tie.close
     (tie.spec
     shared-slice-read-if2
