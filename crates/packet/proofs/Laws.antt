@@ -1,6 +1,7 @@
 -- What the proofs of the functions rest on.
 --
--- In order: the parity of a byte; the table of words; a pass over words; a pass over a part of them; the parts of the sum that CS holds.
+-- In order: the parity of a byte; the table of words; a pass over words; a pass over a part of them; the parts of the sum that CS holds; the word
+-- that a number names.
 -- Assumes nothing.
 use Prim.Native.Nat.{ℕ, zero, suc, _+_, _-_, _*_, _/_, _%_, _≤_, _<_}
 use mathlib.Core.Path.{_≡_, refl, ap, sym, _∙_}
@@ -15,9 +16,11 @@ use lib.ListN.{length, getD, set, take, drop, drop-of-length-le, take-append-dro
 use lib.Seq.{drop-cons, take-add, drop-drop, take-all}
 use borrow.Author.Tests.{eq-eqb, ne-eqb, eqb-true}
 use Rattle.rules.specs.Packet.{parity, word, sum9, check}
-use Rattle.rules.specs.Laying.{isWord, areWords}
+use Rattle.rules.specs.Laying.{isWord, areWords, wordsFault, wordsBefore, flagWord, wordAt, faultOf, typeOf, judged}
 use Rattle.rules.proofs.Basics.{both, rest-part, copy-turn, copy-full}
-use Rattle.rules.proofs.Words.{words-append}
+use Rattle.rules.proofs.Words.{words-append, fault-long}
+use Rattle.rules.specs.declared.Fault.{Fault}
+use Rattle.rules.specs.declared.Judged.{Judged}
 use Rattle.packet.specs.Run.{passOf, wordsFrom, wordTable}
 use Rattle.packet.specs.declared.Pass.{Pass}
 
@@ -149,3 +152,71 @@ pub check-parts : (d h u : ℕ) (s : List ℕ) → h ≡ sum9 (take 3 (drop 3 s)
     → check (take (d + 3) (drop 3 s)) ≡ (h + u) % 512 + 512 * (1 - (h + u) % 512 / 256)
 unfolding check
 check-parts d h u s e f = rw (e, f, sum9-parts d s)
+
+-- ---- the word that a number names
+
+-- the flag, a word at a time: the first that is missing or wrong, or all three are right
+pub flag-0 : (s : List ℕ) → (0 < length s → getD s 0 0 ≡ 0x000 → ⊥) → 0 ≡ flagWord s
+unfolding flagWord
+flag-0 [] h = refl
+flag-0 (a ∷ s) h = rw (ne-eqb a 0x000 (h (omega arith)))
+
+pub flag-1 : (s : List ℕ) → 0 < length s → getD s 0 0 ≡ 0x000 → (1 < length s → getD s 1 0 ≡ 0x3FF → ⊥) → 1 ≡ flagWord s
+unfolding flagWord
+flag-1 [] l e h = absurd (omega arith)
+flag-1 (a ∷ []) l e h = rw (eq-eqb a 0x000 e)
+flag-1 (a ∷ b ∷ s) l e h = rw (eq-eqb a 0x000 e, ne-eqb b 0x3FF (h (omega arith)))
+
+pub flag-2 : (s : List ℕ) → 1 < length s → getD s 0 0 ≡ 0x000 → getD s 1 0 ≡ 0x3FF → (2 < length s → getD s 2 0 ≡ 0x3FF → ⊥) → 2 ≡ flagWord s
+unfolding flagWord
+flag-2 [] l e f h = absurd (omega arith)
+flag-2 (a ∷ []) l e f h = absurd (omega arith)
+flag-2 (a ∷ b ∷ []) l e f h = rw (eq-eqb a 0x000 e, eq-eqb b 0x3FF f)
+flag-2 (a ∷ b ∷ c ∷ s) l e f h = rw (eq-eqb a 0x000 e, eq-eqb b 0x3FF f, ne-eqb c 0x3FF (h (omega arith)))
+
+pub flag-right : (s : List ℕ) → 2 < length s → getD s 0 0 ≡ 0x000 → getD s 1 0 ≡ 0x3FF → getD s 2 0 ≡ 0x3FF → length s ≡ flagWord s
+unfolding flagWord
+flag-right [] l e f g = absurd (omega arith)
+flag-right (a ∷ []) l e f g = absurd (omega arith)
+flag-right (a ∷ b ∷ []) l e f g = absurd (omega arith)
+flag-right (a ∷ b ∷ c ∷ s) l e f g = rw (eq-eqb a 0x000 e, eq-eqb b 0x3FF f, eq-eqb c 0x3FF g)
+
+-- the words before the first wrong one: the word at i is right, or wrong, or there is none
+module _ (i w : ℕ) (ws : List ℕ) (h : i < length ws) (e : w ≡ word (getD ws i 0 % 256)) where
+  pub before-next : getD ws i 0 ≡ w → i + 1 + wordsBefore (drop (i + 1) ws) ≡ i + wordsBefore (drop i ws)
+  unfolding isWord
+  before-next q =
+      rw (add-one i, drop-cons ws i 0 h, eq-eqb (getD ws i 0) (word (getD ws i 0 % 256)) (q ∙ e)) (omega arith)
+
+  pub before-here : (getD ws i 0 ≡ w → ⊥) → i ≡ i + wordsBefore (drop i ws)
+  unfolding isWord
+  before-here q = rw (drop-cons ws i 0 h, ne-eqb (getD ws i 0) (word (getD ws i 0 % 256)) (λ d. q (d ∙ sym e))) (omega arith)
+
+pub before-end : (i : ℕ) (ws : List ℕ) → length ws ≤ i → i ≡ i + wordsBefore (drop i ws)
+before-end i ws h = rw (drop-of-length-le ws h) (omega arith)
+
+-- the number and its word, from the code's own; where there is no fault, no word is looked for
+pub fault-named : (s : List ℕ) (n w : ℕ) → n ≡ wordsFault s → w ≡ wordAt n s → record { number = n; word = w } ≡ faultOf s
+fault-named s n w e f =
+    ap (λ (v : ℕ). record { number = n; word = v }) f ∙ ap (λ (m : ℕ). record { number = m; word = wordAt m s }) e
+
+pub fault-none : (s : List ℕ) (n : ℕ) → n ≡ wordsFault s → n ≡ 0 → record { number = 0; word = 0 } ≡ faultOf s
+unfolding wordAt
+fault-none s n e z = fault-named s 0 0 (sym z ∙ e) refl
+
+-- one packet alone, refused or sound
+module _ (s : List ℕ) (f : Fault) (e : f ≡ faultOf s) where
+  number-is : f .number ≡ wordsFault s
+  number-is = ap (λ (x : Fault). x .number) e
+
+  pub one-refused : (f .number ≡ 0 → ⊥) → record { number = f .number; word = f .word; kind = 0 } ≡ judged s
+  unfolding judged
+  one-refused n =
+      rw (ne-eqb (wordsFault s) 0 (λ z. n (number-is ∙ z))) (ap (λ (x : Fault). record { number = x .number; word = x .word; kind = 0 }) e)
+
+  pub one-sound : (kind : ℕ) → f .number ≡ 0 → kind ≡ typeOf (getD s 3 0 % 256) → record { number = 0; word = 0; kind = kind } ≡ judged s
+  unfolding judged wordAt
+  one-sound kind z k = rw (sym number-is ∙ z, k)
+
+  pub one-long : f .number ≡ 0 → 3 < length s
+  one-long z = let l = fault-long s (sym number-is ∙ z) in omega arith

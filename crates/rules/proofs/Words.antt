@@ -313,6 +313,21 @@ fault-range s h =
     go false false false false true h = omega arith
     go false false false false false h = absurd (h refl)
 
+-- a packet without a fault has all its words
+pub fault-long : (s : List ℕ) → wordsFault s ≡ 0 → dcIn s + 7 ≤ length s
+unfolding wordsFault
+fault-long s e =
+    ltb-false (length s) (dcIn s + 7)
+    (go (ltb (length s) 7 || not (flagged s)) (not (areWords (take 3 (drop 3 s)))) (ltb (length s) (dcIn s + 7))
+    (cond (not (areWords (take (dcIn s) (drop 6 s)))) 8
+    (cond (not (eqb (getD s (dcIn s + 6) 0) (check (take (dcIn s + 3) (drop 3 s))))) 10 0)) e)
+  where
+    go : (a b c : Bool) (n : ℕ) → _≡_ {A = ℕ} (cond a 7 (cond b 8 (cond c 9 n))) 0 → c ≡ false
+    go true b c n e = absurd (omega arith)
+    go false true c n e = absurd (omega arith)
+    go false false true n e = absurd (omega arith)
+    go false false false n e = refl
+
 words-shrink : (s : List ℕ) → wordRow .fault s ≡ 0 → length (wordRow .rest s) < length s
 words-shrink s e =
     let w = words-uncut (record { sequences = 0; last = 0 }) s tt e in

@@ -38,7 +38,7 @@ use Rattle.rules.specs.Laying.{
 use Rattle.rules.specs.Lister.{testedOf, tested}
 use Rattle.rules.specs.declared.Tested.{Tested}
 use Rattle.rules.proofs.Basics.{both, second-false, rest-part}
-use Rattle.rules.proofs.Words.{words-enough, words-refused}
+use Rattle.rules.proofs.Words.{fault-long, words-enough, words-refused}
 use Rattle.frame.specs.Systems.{figuresOf}
 use Rattle.frame.specs.declared.Figures.{Figures}
 use Rattle.frame.proofs.Laws.{last-is, is-unknown, is-known}
@@ -156,21 +156,6 @@ add-also sys k at packs p (listed ps) =
     let b : at + (bytesOf p + stringBytes ps) ≡ at + bytesOf p + stringBytes ps = omega arith in
     let c : packs + (packsOf p + sum (map packsOf ps)) ≡ packs + packsOf p + sum (map packsOf ps) = omega arith in
     λ i. counted sys (a i) (b i) (c i)
-
--- a packet without a fault has all its words
-pub fault-long : (s : List ℕ) → wordsFault s ≡ 0 → dcIn s + 7 ≤ length s
-unfolding wordsFault
-fault-long s e =
-    ltb-false (length s) (dcIn s + 7)
-    (go (ltb (length s) 7 || not (flagged s)) (not (areWords (take 3 (drop 3 s)))) (ltb (length s) (dcIn s + 7))
-    (cond (not (areWords (take (dcIn s) (drop 6 s)))) 8
-    (cond (not (eqb (getD s (dcIn s + 6) 0) (check (take (dcIn s + 3) (drop 3 s))))) 10 0)) e)
-  where
-    go : (a b c : Bool) (n : ℕ) → _≡_ {A = ℕ} (cond a 7 (cond b 8 (cond c 9 n))) 0 → c ≡ false
-    go true b c n e = absurd (omega arith)
-    go false true c n e = absurd (omega arith)
-    go false false true n e = absurd (omega arith)
-    go false false false n e = refl
 
 -- the packet at the front of some words, and those after it
 front : (left i : ℕ) (s : List ℕ) → 0 < length s

@@ -1,23 +1,21 @@
+-- `packet::dc_of` meets its contract: past the end a list has 0. Assumes nothing.
+use Prim.Native.Nat.{ℕ, _%_}
+use mathlib.Core.Path.{sym, ap}
+use native.Mathlib.Omega.{arith}
+use lib.ListN.{List·getD-eq-default}
 use borrow.Author.Needs.{needs}
 use Rattle.packet.proofs.dc_of.Statement.{statement}
 use Rattle.packet.proofs.dc_of.Tie as tie
-use Rattle.packet.proofs.dc_of.Reads as reads
-use Rattle.packet.proofs.dc_of.Lts as lts
-use Rattle.packet.proofs.low_byte.Reads as low-byte-reads
 
--- src/lib.rt:239:9
 returns : tie.Need-returns
-returns c = ?
+returns c = sym (ap (λ (n : ℕ). n % 256) (List·getD-eq-default (c .before .before .args .ws .now) 0 (omega (arith, c .if1 .taken))))
 
--- src/lib.rt:241:14
 shared-slice-read-low-byte : tie.Need-shared-slice-read-low-byte
 shared-slice-read-low-byte c = search needs
 
--- src/lib.rt:241:5
 low-byte-requires : tie.Need-low-byte-requires
 low-byte-requires c κs = search needs
 
--- src/lib.rt:235:1
 returns-2 : tie.Need-returns-2
 returns-2 c = search needs
 

@@ -1,15 +1,13 @@
+-- `packet::type_of` meets its contract. Assumes nothing.
+use borrow.Author.Tests.{le-leb, lt-leb}
 use Rattle.packet.proofs.type_of.Statement.{statement}
 use Rattle.packet.proofs.type_of.Tie as tie
-use Rattle.packet.proofs.type_of.Reads as reads
-use Rattle.packet.proofs.type_of.Lts as lts
 
--- src/lib.rt:275:9
 returns : tie.Need-returns
-returns c = ?
+returns c = rw (lt-leb 0x80 _ (c .if1 .taken))
 
--- src/lib.rt:271:1
 returns-2 : tie.Need-returns-2
-returns-2 c = ?
+returns-2 c = rw (le-leb 0x80 _ (c .if1 .left))
 
 pub type-of-spec : {M : Type 1} → statement M
 type-of-spec = tie.close (tie.spec returns returns-2)
