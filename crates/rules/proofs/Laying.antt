@@ -21,7 +21,7 @@ use Rattle.rules.specs.Blocks.{runs, blockSizes, areaSize, scatter, user
 use Rattle.rules.specs.Packings.{isPacking, laidBytes, fits, packsLaid, packsIn}
 use Rattle.rules.specs.Numbers.{Outcome, listed, refused, unless, andThen}
 use Rattle.rules.specs.Laying.{wordAt, wordIn, shaped, listTests, sheetTests, laying, laidOf, laidWith, areaOf, lay, areaAfter}
-use Rattle.rules.specs.Lister.{testedOf, testedWith, tested}
+use Rattle.rules.specs.Lister.{testedOf, toldOf, tested}
 use Rattle.rules.specs.Demands.{SheetOf, Tests, Asked, Success, Unlaid, Lays}
 use Rattle.rules.specs.declared.Laid.{Laid}
 use Rattle.rules.specs.declared.Tested.{Tested}
@@ -236,10 +236,10 @@ module _ (k : ℕ) (s area : List ℕ) where
         refuses-list n0 =
             let v = past-system in
             let y = system (systemIn s) in
-            let a : t ≡ testedWith (wordIn (wordsIn s) (listTests y s)) (testedOf (systemIn s) (listTests y s)) = w .answer ∙ rw (v .0, v .1) in
+            let a : t ≡ toldOf (systemIn s) (wordsIn s) (listTests y s) = w .answer ∙ rw (v .0, v .1) in
             rw (p, v .0, v .1, eq-eqb (length area) (areaSize y) l) (go (listTests y s) a)
           where
-            go : (o : Outcome) → t ≡ testedWith (wordIn (wordsIn s) o) (testedOf (systemIn s) o)
+            go : (o : Outcome) → t ≡ toldOf (systemIn s) (wordsIn s) o
                 → andThen o (λ (ps : List Packet). unless 12 (fits k (blockSizes (system (systemIn s))) ps) (listed ps))
                 ≡ refused (t .number) (t .place)
             go (listed ps) e = absurd (n0 (ap (λ (x : Tested). x .number) e))

@@ -3,7 +3,7 @@
 -- In order: the shape (2); locations (6); packets (7 to 10); the list (5, 6, 11); the sheet (2, 3).
 -- Assumes nothing.
 use Prim.Native.Nat.{ℕ, zero, suc, _+_, _-_, _*_, _/_, _%_, _≤_, _<_}
-use mathlib.Core.Path.{_≡_, refl, sym, ap, _∙_}
+use mathlib.Core.Path.{_≡_, refl, sym, ap, ap₂, _∙_}
 use mathlib.Core.Bool.{Bool, true, false, cond, not, _&&_, _||_}
 use mathlib.Core.List.{List, [], _∷_, map}
 use native.Mathlib.Nat.{zero-add, add-zero, sub-zero}
@@ -26,6 +26,9 @@ use Rattle.rules.specs.Laying.{
   low,
   dcIn,
   wordsFault,
+  wordAt,
+  faultOf,
+  fromPacket,
   packetOfWords,
   wordRow,
   packetsOfWords,
@@ -35,7 +38,8 @@ use Rattle.rules.specs.Laying.{
   listTests,
   sheetTests,
 }
-use Rattle.rules.specs.Lister.{testedOf, tested}
+use Rattle.rules.specs.Lister.{testedOf, testedWith, toldOf, tested}
+use Rattle.rules.specs.declared.Fault.{Fault}
 use Rattle.rules.specs.declared.Tested.{Tested}
 use Rattle.rules.proofs.Basics.{both, second-false, rest-part}
 use Rattle.rules.proofs.Words.{fault-long, words-enough, words-refused}
@@ -129,7 +133,7 @@ stand-end y k ls h = let l = length-drop (2 * k) ls in go (drop (2 * k) ls) (ome
 -- ---- packets
 
 abbrev pub counted : ℕ → ℕ → ℕ → ℕ → Tested
-counted sys k bytes packs = record { number = 0; place = 0; system = sys; packets = k; bytes = bytes; packs = packs }
+counted sys k bytes packs = record { number = 0; place = 0; word = 0; system = sys; packets = k; bytes = bytes; packs = packs }
 
 -- the figures of some packets, and those of a list behind them
 abbrev pub addTo : ℕ → ℕ → ℕ → ℕ → Outcome → Tested
@@ -156,6 +160,28 @@ add-also sys k at packs p (listed ps) =
     let b : at + (bytesOf p + stringBytes ps) ≡ at + bytesOf p + stringBytes ps = omega arith in
     let c : packs + (packsOf p + sum (map packsOf ps)) ≡ packs + packsOf p + sum (map packsOf ps) = omega arith in
     λ i. counted sys (a i) (b i) (c i)
+
+-- the words from the next packet on
+from-next : (k : ℕ) (ws : List ℕ) → fromPacket (suc k) ws ≡ drop (dcIn (fromPacket k ws) + 7) (fromPacket k ws)
+from-next zero ws = refl
+from-next (suc k) ws = from-next k (drop (dcIn ws + 7) ws)
+
+-- what is told of the words: a packet at fault with its word, or figures
+pub told-refused : (sys n k w : ℕ) (ws : List ℕ) (o : Outcome) → (n ≡ 0 → ⊥) → testedOf 0 (refused n k) ≡ testedOf sys o
+    → w ≡ wordAt n (fromPacket k ws) → testedWith w (testedOf 0 (refused n k)) ≡ toldOf sys ws o
+told-refused sys n k w ws (listed ps) h e f = absurd (h (ap (λ (x : Tested). x .number) e))
+told-refused sys n k w ws (refused m i) h e f =
+    let number : n ≡ m = ap (λ (x : Tested). x .number) e in
+    let place : k ≡ i = ap (λ (x : Tested). x .place) e in
+    ap₂ testedWith (f ∙ ap₂ (λ (a b : ℕ). wordAt a (fromPacket b ws)) number place) e
+
+pub told-figures : (sys k at packs : ℕ) (ws : List ℕ) (o : Outcome) → counted sys k at packs ≡ testedOf sys o
+    → counted sys k at packs ≡ toldOf sys ws o
+unfolding wordAt
+told-figures sys k at packs ws (listed ps) e = e
+told-figures sys k at packs ws (refused m i) e =
+    let number : m ≡ 0 = sym (ap (λ (x : Tested). x .number) e) in
+    e ∙ ap (λ (w : ℕ). testedWith w (testedOf sys (refused m i))) (sym (rw number))
 
 -- the packet at the front of some words, and those after it
 front : (left i : ℕ) (s : List ℕ) → 0 < length s
@@ -191,17 +217,29 @@ at-end sys k at packs ws h =
     rw (z, drop-of-length-le ws h) (simp add-zero)
 
 -- a place, and what the test of the packet there gave
-module _ (at : ℕ) (ws : List ℕ) (h : at < length ws) (f : ℕ) (e : f ≡ wordsFault (take (length ws - at) (drop at ws))) where
+module _ (at : ℕ) (ws : List ℕ) (h : at < length ws) (found : Fault) (e : found ≡ faultOf (take (length ws - at) (drop at ws))) where
+  abbrev f : ℕ
+  f = found .number
+
   fault-is : f ≡ wordsFault (drop at ws)
-  fault-is = e ∙ ap wordsFault (rest-part at ws)
+  fault-is = ap (λ (x : Fault). x .number) e ∙ ap wordsFault (rest-part at ws)
+
+  word-is : found .word ≡ wordAt f (drop at ws)
+  word-is =
+      ap (λ (x : Fault). x .word) (e ∙ ap faultOf (rest-part at ws)) ∙ ap (λ (n : ℕ). wordAt n (drop at ws)) (sym fault-is)
 
   -- "the first at fault is named"
-  pub at-fault : (f ≡ 0 → ⊥) → (sys k packs : ℕ) → testedOf 0 (refused f k) ≡ wholeFrom sys k at packs ws
-  at-fault g sys k packs =
+  fault-first : (f ≡ 0 → ⊥) → (sys k packs : ℕ) → testedOf 0 (refused f k) ≡ wholeFrom sys k at packs ws
+  fault-first g sys k packs =
       let l = length-drop at ws in
       let o : packetsIn wordRow (length ws - at) k (drop at ws) ≡ refused (wordsFault (drop at ws)) k =
       front-fault (length ws - at) k (drop at ws) (omega arith) (omega arith) (λ z. g (fault-is ∙ z)) in
       sym (ap (addTo sys k at packs) (o ∙ ap (λ (n : ℕ). refused n k) (sym fault-is)))
+
+  pub at-fault : (f ≡ 0 → ⊥) → (sys k packs : ℕ) (o : Outcome) → wholeFrom sys k at packs ws ≡ testedOf sys o → fromPacket k ws ≡ drop at ws
+      → testedWith (found .word) (testedOf 0 (refused f k)) ≡ toldOf sys ws o
+  at-fault g sys k packs o i j =
+      told-refused sys f k (found .word) ws o g (fault-first g sys k packs ∙ i) (word-is ∙ ap (wordAt f) (sym j))
 
   module _ (z : f ≡ 0) where
     fine : wordsFault (drop at ws) ≡ 0
@@ -213,6 +251,13 @@ module _ (at : ℕ) (ws : List ℕ) (h : at < length ws) (f : ℕ) (e : f ≡ wo
     -- all its words are there
     pub all-there : at + (getD ws (at + 5) 0 % 256 + 7) ≤ length ws
     all-there = let d = dc-is in let l = length-drop at ws in let m = fault-long (drop at ws) fine in omega arith
+
+    module _ (dc : ℕ) (d : dc ≡ getD ws (at + 5) 0 % 256) where
+      behind : drop (dcIn (drop at ws) + 7) (drop at ws) ≡ drop (at + (dc + 7)) ws
+      behind = drop-drop (dcIn (drop at ws) + 7) at ws ∙ ap (λ (m : ℕ). drop (at + (m + 7)) ws) (dc-is ∙ sym d)
+
+      pub from-there : (k : ℕ) → fromPacket k ws ≡ drop at ws → fromPacket (k + 1) ws ≡ drop (at + (dc + 7)) ws
+      from-there k q = rw (add-one k) (from-next k ws ∙ ap (λ (s : List ℕ). drop (dcIn s + 7) s) q ∙ behind)
 
     -- one packet more
     pub at-next : (dc : ℕ) → dc ≡ getD ws (at + 5) 0 % 256 → (sys k packs : ℕ)
@@ -228,8 +273,7 @@ module _ (at : ℕ) (ws : List ℕ) (h : at < length ws) (f : ℕ) (e : f ≡ wo
         let b : packs + packsOf (packetOfWords s) ≡ packs + (2 + (dc + 3) / 4) =
         ap (λ (n : ℕ). packs + (1 + (1 + (n + 3) / 4))) u ∙ (omega arith) in
         let n : length ws - at - (dcIn s + 7) ≡ length ws - (at + (dc + 7)) = omega arith in
-        let t : drop (dcIn s + 7) s ≡ drop (at + (dc + 7)) ws =
-        drop-drop (dcIn s + 7) at ws ∙ ap (λ (m : ℕ). drop (at + (m + 7)) ws) d in
+        let t : drop (dcIn s + 7) s ≡ drop (at + (dc + 7)) ws = behind dc e in
         sym
         (ap (addTo sys k at packs) (front-fine (length ws - at) k s (omega arith) (omega arith) fine)
         ∙ add-also sys k at packs (packetOfWords s) (packetsIn wordRow (length ws - at - (dcIn s + 7)) (k + 1) (drop (dcIn s + 7) s))
@@ -256,8 +300,8 @@ paired s ps = unless 11 (eqb (length ps) (countIn s)) (listed (located (location
 -- a sheet's count, as the code has it
 module _ (sys : ℕ) (y : System) (s : List ℕ) (p : ℕ) (is : p ≡ countIn s) where
   -- "laying: P over [1,275]"
-  pub too-many : limit < p → testedOf 0 (refused 5 0) ≡ testedOf sys (listTests y s)
-  unfolding listTests
+  pub too-many : limit < p → testedOf 0 (refused 5 0) ≡ toldOf sys (wordsIn s) (listTests y s)
+  unfolding listTests wordAt
   too-many h = rw (lt-leb (countIn s) limit (omega arith))
 
   -- what the code lends as locations, and how many of them it found to stand
@@ -282,25 +326,26 @@ module _ (sys : ℕ) (y : System) (s : List ℕ) (p : ℕ) (is : p ≡ countIn s
         )
 
     -- "line or flags out of range"
-    pub out-of-range : (k ≡ p → ⊥) → testedOf 0 (refused 6 k) ≡ testedOf sys (listTests y s)
+    pub out-of-range : (k ≡ p → ⊥) → testedOf 0 (refused 6 k) ≡ toldOf sys (wordsIn s) (listTests y s)
+    unfolding wordAt
     out-of-range h = rw (from-six, ne-eqb k p h)
 
     -- what the code lends as words, and what it found in them
     module _ (all : k ≡ p) (t : Tested)
-        (found : t ≡ testedOf sys (packetsOfWords (take (length s - (3 + 2 * p + 1)) (drop (3 + 2 * p + 1) s)))) where
-      found-is : t ≡ testedOf sys (packetsOfWords (wordsIn s))
+        (found : let ws : List ℕ = take (length s - (3 + 2 * p + 1)) (drop (3 + 2 * p + 1) s) in t ≡ toldOf sys ws (packetsOfWords ws)) where
+      found-is : t ≡ toldOf sys (wordsIn s) (packetsOfWords (wordsIn s))
       found-is =
           let e : 3 + 2 * p + 1 ≡ 4 + 2 * countIn s = omega arith in
-          found ∙ ap (λ (ws : List ℕ). testedOf sys (packetsOfWords ws)) (rest-part (3 + 2 * p + 1) s ∙ ap (λ (n : ℕ). drop n s) e)
+          found ∙ ap (λ (ws : List ℕ). toldOf sys ws (packetsOfWords ws)) (rest-part (3 + 2 * p + 1) s ∙ ap (λ (n : ℕ). drop n s) e)
 
       from-words : listTests y s ≡ andThen (packetsOfWords (wordsIn s)) (paired s)
       from-words = rw (from-six, eq-eqb k p all)
 
       -- a packet at fault
-      pub packet-refused : (t .number ≡ 0 → ⊥) → t ≡ testedOf sys (listTests y s)
-      packet-refused h = go (packetsOfWords (wordsIn s)) found-is ∙ ap (testedOf sys) (sym from-words)
+      pub packet-refused : (t .number ≡ 0 → ⊥) → t ≡ toldOf sys (wordsIn s) (listTests y s)
+      packet-refused h = go (packetsOfWords (wordsIn s)) found-is ∙ ap (toldOf sys (wordsIn s)) (sym from-words)
         where
-          go : (o : Outcome) → t ≡ testedOf sys o → t ≡ testedOf sys (andThen o (paired s))
+          go : (o : Outcome) → t ≡ toldOf sys (wordsIn s) o → t ≡ toldOf sys (wordsIn s) (andThen o (paired s))
           go (refused n i) e = e
           go (listed ps) e = absurd (h (ap (λ (x : Tested). x .number) e))
 
@@ -308,7 +353,7 @@ module _ (sys : ℕ) (y : System) (s : List ℕ) (p : ℕ) (is : p ≡ countIn s
       list-of : t .number ≡ 0 → (ps : List Packet) × (packetsOfWords (wordsIn s) ≡ listed ps) × (t ≡ testedOf sys (listed ps))
       list-of z = go (packetsOfWords (wordsIn s)) refl found-is
         where
-          go : (o : Outcome) → packetsOfWords (wordsIn s) ≡ o → t ≡ testedOf sys o
+          go : (o : Outcome) → packetsOfWords (wordsIn s) ≡ o → t ≡ toldOf sys (wordsIn s) o
               → (ps : List Packet) × (packetsOfWords (wordsIn s) ≡ listed ps) × (t ≡ testedOf sys (listed ps))
           go (listed ps) q e = (ps, q, e)
           go (refused n i) q e =
@@ -317,7 +362,8 @@ module _ (sys : ℕ) (y : System) (s : List ℕ) (p : ℕ) (is : p ≡ countIn s
               absurd (omega arith)
 
       -- "packets and locations differ in number"
-      pub differ : t .number ≡ 0 → not (eqb (t .packets) p) ≡ true → testedOf 0 (refused 11 0) ≡ testedOf sys (listTests y s)
+      pub differ : t .number ≡ 0 → not (eqb (t .packets) p) ≡ true → testedOf 0 (refused 11 0) ≡ toldOf sys (wordsIn s) (listTests y s)
+      unfolding wordAt
       differ z h =
           let l = list-of z in
           let n : t .packets ≡ length (l .0) = ap (λ (x : Tested). x .packets) (l .2) in
@@ -325,7 +371,7 @@ module _ (sys : ℕ) (y : System) (s : List ℕ) (p : ℕ) (is : p ≡ countIn s
           rw (from-words, l .1, ne-eqb (length (l .0)) (countIn s) (λ e. d (n ∙ e ∙ sym is)))
 
       -- and the list stands
-      pub whole : t .number ≡ 0 → not (eqb (t .packets) p) ≡ false → t ≡ testedOf sys (listTests y s)
+      pub whole : t .number ≡ 0 → not (eqb (t .packets) p) ≡ false → t ≡ toldOf sys (wordsIn s) (listTests y s)
       whole z h =
           let l = list-of z in
           let d : t .packets ≡ p = eqb-true (t .packets) p (not-false (eqb (t .packets) p) h) in
@@ -337,7 +383,7 @@ module _ (sys : ℕ) (y : System) (s : List ℕ) (p : ℕ) (is : p ≡ countIn s
 
 module _ (s : List ℕ) where
   pub misshapen : shaped s ≡ false → testedOf 0 (refused 2 0) ≡ tested s
-  unfolding tested sheetTests
+  unfolding tested sheetTests wordAt
   misshapen e = rw e
 
   -- a sheet of the right shape, and the figures of the system that it names
@@ -347,13 +393,13 @@ module _ (s : List ℕ) where
 
     -- "system not 1 to 3"
     pub unknown : x .sequences ≡ 0 → testedOf 0 (refused 3 0) ≡ tested s
-    unfolding tested sheetTests
+    unfolding tested sheetTests wordAt
     unknown z = rw (sh, is-unknown (systemIn s) x named z)
 
     -- and the list's own tests
     pub the-list : (x .sequences ≡ 0 → ⊥) → (r : Tested)
-        → ((y : System) → y .last ≡ x .«last_line» .0 → r ≡ testedOf sys (listTests y s)) → r ≡ tested s
+        → ((y : System) → y .last ≡ x .«last_line» .0 → r ≡ toldOf sys (wordsIn s) (listTests y s)) → r ≡ tested s
     unfolding tested sheetTests
     the-list z r h =
         rw (sh, is-known (systemIn s) x named z)
-        (h (system (systemIn s)) (sym (last-is (systemIn s) x named)) ∙ ap (λ (n : ℕ). testedOf n (listTests (system (systemIn s)) s)) is)
+        (h (system (systemIn s)) (sym (last-is (systemIn s) x named)) ∙ ap (λ (n : ℕ). toldOf n (wordsIn s) (listTests (system (systemIn s)) s)) is)

@@ -5,9 +5,10 @@ ghost use mathlib.Core.Path.{_≡_};
 ghost use mathlib.Core.Bool.{true};
 ghost use Prim.Native.Nat.{_<_};
 ghost use Rattle.rules.specs.Systems.{System};
+ghost use Rattle.rules.specs.Sheet.{wordsIn};
 ghost use Rattle.rules.specs.Numbers.{refused};
 ghost use Rattle.rules.specs.Laying.{packetsOfWords, shaped, listTests};
-ghost use Rattle.rules.specs.Lister.{testedOf};
+ghost use Rattle.rules.specs.Lister.{testedOf, testedWith, toldOf};
 ghost use Rattle.rules.specs.Demands.{Tests};
 ghost use Rattle.sheet.specs.Standing.{standingIn};
 
@@ -25,13 +26,14 @@ pub fn wide(x: u16) -> usize
     x as usize
 }
 
-// "On refusal the later figures are 0".
-fn refusal(number: u64, place: u64) -> Tested
-    ensures { λ r. ⌜ r ≡ testedOf 0 (refused number place) ⌝ }
+// "On refusal the later figures are 0". 7 to 10 name a word of the packet; for every other number the word is 0 (document 02, A2).
+fn refusal(number: u64, place: u64, word: u64) -> Tested
+    ensures { λ r. ⌜ r ≡ testedWith word (testedOf 0 (refused number place)) ⌝ }
 {
     Tested {
         number,
         place,
+        word,
         system: 0,
         packets: 0,
         bytes: 0,
@@ -73,7 +75,7 @@ fn standing(last: Line, ls: &[u16]) -> usize
 // "Then packet by packet", "packets back to back": the first packet at fault, or the figures of all of them.
 // "A DANC packet has as many bytes as its VANC packet has words, DC + 7." "A packet takes 2 + DC/4 packs, the quotient rounded up."
 fn packets(system: u64, ws: &[u16]) -> Tested
-    ensures { λ r. ⌜ r ≡ testedOf system (packetsOfWords (now (ws .entry))) ⌝ }
+    ensures { λ r. ⌜ r ≡ toldOf system (now (ws .entry)) (packetsOfWords (now (ws .entry))) ⌝ }
 {
     let table = packet::words();
     let mut at = 0;
@@ -81,8 +83,8 @@ fn packets(system: u64, ws: &[u16]) -> Tested
     let mut packs: u64 = 0;
     while at < ws.len() {
         let f = packet::fault_by(&table, &ws[at..]);
-        if f != 0 {
-            return refusal(f, k);
+        if f.number != 0 {
+            return refusal(f.number, k, f.word);
         }
         let dc = wide(ws[at + 5] % 256);
         packs += 2 + ((dc + 3) / 4) as u64;
@@ -92,6 +94,7 @@ fn packets(system: u64, ws: &[u16]) -> Tested
     Tested {
         number: 0,
         place: 0,
+        word: 0,
         system,
         packets: k,
         bytes: at as u64,
@@ -102,21 +105,21 @@ fn packets(system: u64, ws: &[u16]) -> Tested
 // The tests of the list: "5 | laying: P over [1,275]", 6, 7 to 10 packet by packet, "11 | packets and locations differ in number".
 fn list_tests(system: u64, last: Line, s: &[u16]) -> Tested
     requires { ⌜ shaped (now s) ≡ true ⌝ }
-    ensures { λ r. ⌜ ((y : System) → y .last ≡ last .0 → r ≡ testedOf system (listTests y (now (s .entry)))) ⌝ }
+    ensures { λ r. ⌜ ((y : System) → y .last ≡ last .0 → r ≡ toldOf system (wordsIn (now (s .entry))) (listTests y (now (s .entry)))) ⌝ }
 {
     let p = wide(s[2]);
     if p > frame::LIMIT {
-        return refusal(5, 0);
+        return refusal(5, 0, 0);
     }
     let end = 3 + 2 * p;
     let k = standing(last, &s[3..end]);
     if k != p {
-        return refusal(6, k as u64);
+        return refusal(6, k as u64, 0);
     }
     let first = end + 1;
     let t = packets(system, &s[first..]);
     if t.number == 0 && t.packets != p as u64 {
-        return refusal(11, 0);
+        return refusal(11, 0, 0);
     }
     t
 }
@@ -126,12 +129,12 @@ pub fn test(s: &[u16]) -> Tested
     ensures { λ r. ⌜ Tests (now (s .entry)) r ⌝ }
 {
     if !is_shaped(s) {
-        return refusal(2, 0);
+        return refusal(2, 0, 0);
     }
     let system = wide(s[1]) as u64;
     let figures = frame::figures_of(system);
     if figures.sequences == 0 {
-        return refusal(3, 0);
+        return refusal(3, 0, 0);
     }
     list_tests(system, figures.last_line, s)
 }
