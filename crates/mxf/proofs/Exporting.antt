@@ -15,7 +15,7 @@ use Rattle.rules.specs.Base.{All, none, one, joined}
 use Rattle.rules.specs.Systems.{System, known, system}
 use Rattle.rules.specs.Packet.{Packet, Sound}
 use Rattle.rules.specs.Danc.{bytesOf, stringBytes}
-use Rattle.rules.specs.Sheet.{limit, systemIn, allWords, sheetOf}
+use Rattle.rules.specs.Sheet.{limit, systemIn, allWords, sheetOf, wordsIn}
 use Rattle.rules.specs.Numbers.{Outcome, listed, refused, unless, andThen}
 use Rattle.rules.specs.Laying.{sheetTests}
 use Rattle.rules.specs.Reading.{bufferOf}
@@ -28,7 +28,7 @@ use Rattle.rules.proofs.Sheets.{Sixteen, system-back, sheet-read, sheet-laid, s
 use Rattle.sheet.specs.Write.{hasRoom}
 use Rattle.mxf.specs.Element.{Padded, bare, packetsOf, coding, structure, value, element, elementOf}
 use Rattle.mxf.specs.Served.{serves, served, fiRead, givenBack, allBack}
-use Rattle.mxf.specs.Writing.{lined, export, withRoom, writing, writtenOf, elementIn, write, elementAfter}
+use Rattle.mxf.specs.Writing.{lined, export, withRoom, writing, writtenOf, writtenIn, elementIn, write, elementAfter}
 use Rattle.mxf.specs.Reading.{readOf, read, sheetAfter}
 use Rattle.mxf.specs.Demands.{Lined, Held, Gives, Exported, Unwritten, Writes}
 use Rattle.mxf.specs.declared.ElementWritten.{ElementWritten}
@@ -272,10 +272,11 @@ writes fi s target r after hs er ea =
       comesBack = record { back = λ sys ps sheet g n h. back sys ps sheet g (only (writing fi s (length target)) refl (number er) n) h };
     }
   where
-    number : r ≡ writtenOf (systemIn s) (writing fi s (length target)) → r .number ≡ writtenOf (systemIn s) (writing fi s (length target)) .number
+    number : r ≡ writtenIn (systemIn s) (wordsIn s) (writing fi s (length target))
+        → r .number ≡ writtenOf (systemIn s) (writing fi s (length target)) .number
     number e = ap (λ (x : ElementWritten). x .number) e
 
-    unwritten : (o : Outcome) → r ≡ writtenOf (systemIn s) o → after ≡ elementIn (systemIn s) target o → (r .number ≡ 0 → ⊥)
+    unwritten : (o : Outcome) → r ≡ writtenIn (systemIn s) (wordsIn s) o → after ≡ elementIn (systemIn s) target o → (r .number ≡ 0 → ⊥)
         → Unwritten r target after
     unwritten (listed ps) p q n = absurd (n (ap (λ (x : ElementWritten). x .number) p))
     unwritten (refused m i) p q n =
@@ -286,7 +287,7 @@ writes fi s target r after hs er ea =
     done sys ps x =
         let w = written fi s (length target) sys ps (x .sheet) (x .lined) (x .room) in
         let y = own-system fi s (length target) sys ps (x .sheet) in
-        (er ∙ ap₂ writtenOf y w, ea ∙ ap₂ (λ (n : ℕ) (o : Outcome). elementIn n target o) y w)
+        (er ∙ ap₂ (λ (n : ℕ) (o : Outcome). writtenIn n (wordsIn s) o) y w, ea ∙ ap₂ (λ (n : ℕ) (o : Outcome). elementIn n target o) y w)
 
     only : (o : Outcome) → writing fi s (length target) ≡ o → r .number ≡ writtenOf (systemIn s) o .number → r .number ≡ 0
         → (sys : ℕ) × (ps : List Packet) × Exported fi sys ps s target

@@ -9,7 +9,7 @@ use mathlib.Core.Bool.{Bool, true, false, cond, _&&_}
 use mathlib.Core.List.{List, [], _∷_, _++_, map, append-assoc, append-nil}
 use native.Mathlib.Omega.{arith}
 use native.Mathlib.Numerals.{add-one}
-use lib.Dec.{eqb}
+use lib.Dec.{eqb, leb}
 use lib.ListN.{length, getD, take, drop, set, length-append, length-drop, length-map, drop-of-length-le, take-append-drop}
 use lib.Seq.{sets, sets-eq, length-sets, drop-cons, drop-drop, take-at, take-all}
 use borrow.Author.Tests.{le-leb, lt-leb, eq-eqb, ne-eqb}
@@ -18,9 +18,9 @@ use Rattle.rules.specs.Systems.{System, system}
 use Rattle.rules.specs.Packet.{Packet, body, word, words, coded, checkOf, Sound}
 use Rattle.rules.specs.Danc.{bytesOf}
 use Rattle.rules.specs.Sheet.{limit, allWords, systemIn, locationsIn, wordsIn}
-use Rattle.rules.specs.Numbers.{Outcome, listed, refused, andThen}
-use Rattle.rules.specs.Laying.{low, sheetTests}
-use Rattle.rules.specs.Lister.{testedOf, tested}
+use Rattle.rules.specs.Numbers.{Outcome, listed, refused, unless, andThen}
+use Rattle.rules.specs.Laying.{low, wordAt, wordIn, sheetTests}
+use Rattle.rules.specs.Lister.{testedIn, tested}
 use Rattle.rules.specs.Demands.{SheetOf, Tests}
 use Rattle.rules.specs.declared.Tested.{Tested}
 use Rattle.rules.proofs.Basics.{sets-front, sets-behind, rest-part}
@@ -31,7 +31,7 @@ use Rattle.sections.specs.Sections.{SectionsOf}
 use Rattle.sections.proofs.Laws.{sections-of, Left, left-all, left-none, Next, next-of, next-inside}
 use Rattle.mxf.specs.Element.{two, three, four, key, wrapping, coding, bare, samples, structure, value, element, elementOf}
 use Rattle.mxf.specs.Served.{serves, served}
-use Rattle.mxf.specs.Writing.{lined, export, withRoom, writing, writtenOf, elementIn, write, elementAfter}
+use Rattle.mxf.specs.Writing.{lined, export, withRoom, writing, writtenOf, writtenWith, writtenIn, elementIn, write, elementAfter}
 use Rattle.mxf.specs.Parts.{Sections}
 use Rattle.mxf.specs.declared.ElementWritten.{ElementWritten}
 use Rattle.mxf.proofs.Elements.{structure-length}
@@ -102,11 +102,11 @@ module _ {sys : ℕ} {fi : Bool} {ls ws : List ℕ} {k at packets bytes : ℕ} (
   Answer r = (y : System) (ps : List Packet) → SectionsOf y ps ls ws → r ≡ writtenOf sys (export sys fi ps)
 
   -- all are measured
-  pub measure-done : length ls ≤ 2 * k → Answer (record { number = 0; place = 0; packets = packets; bytes = bytes })
+  pub measure-done : length ls ≤ 2 * k → Answer (record { number = 0; place = 0; word = 0; packets = packets; bytes = bytes })
   measure-done end y ps h = go (so .of y ps h)
     where
       go : MeasureLeft sys fi y ps ls ws k at packets bytes
-          → record { number = 0; place = 0; packets = packets; bytes = bytes } ≡ writtenOf sys (export sys fi ps)
+          → record { number = 0; place = 0; word = 0; packets = packets; bytes = bytes } ≡ writtenOf sys (export sys fi ps)
       go f =
           let n : f .left ≡ [] = left-none y ls ws (2 * k) at (f .left) (f .is) (omega arith) in
           let e : export sys fi ps ≡ listed (served sys fi ps) =
@@ -119,7 +119,7 @@ module _ {sys : ℕ} {fi : Bool} {ls ws : List ℕ} {k at packets bytes : ℕ} (
           ap (λ (t : List Packet). length (structuresOf sys (served sys fi t))) n in
           let l = element-length sys (served sys fi ps) in
           omega arith in
-          ap₂ (λ (m n : ℕ). record { number = 0; place = 0; packets = m; bytes = n }) c d ∙ ap (writtenOf sys) (sym e)
+          ap₂ (λ (m n : ℕ). record { number = 0; place = 0; word = 0; packets = m; bytes = n }) c d ∙ ap (writtenOf sys) (sym e)
 
   module _ (more : 2 * k < length ls) where
     measure-next : (y : System) (ps : List Packet) (h : SectionsOf y ps ls ws) → Next y ls ws (2 * k) at (so .of y ps h .left)
@@ -588,16 +588,37 @@ module _ (sys : ℕ) (fi : Bool) (s buffer : List ℕ) {ls ws : List ℕ} (b : l
 abbrev pub Answered : Bool → List ℕ → List ℕ → ElementWritten → List ℕ → Type 0
 Answered fi s buffer r after = (r ≡ write fi s buffer) × (after ≡ elementAfter fi s buffer)
 
+-- 18 and 17 name no word
+no-word : (sys : ℕ) (ws : List ℕ) (o : Outcome) → wordIn ws o ≡ 0 → writtenOf sys o ≡ writtenIn sys ws o
+no-word sys ws (listed ps) e = refl
+no-word sys ws (refused n i) e = ap (λ (w : ℕ). writtenWith w (writtenOf sys (refused n i))) (sym e)
+
+export-word : (sys room : ℕ) (fi : Bool) (ws : List ℕ) (i : ℕ) (ps qs : List Packet)
+    → wordIn ws (withRoom sys room (lined sys fi i ps (listed qs))) ≡ 0
+unfolding wordAt
+export-word sys room fi ws i [] qs = go (leb (length (elementOf sys qs)) room)
+  where
+    go : (b : Bool) → wordIn ws (unless 17 b (listed qs)) ≡ 0
+    go true = refl
+    go false = refl
+export-word sys room fi ws i (p ∷ ps) qs =
+    go (serves sys fi (p .flags) && eqb (p .line) 0) (lined sys fi (suc i) ps (listed qs)) (export-word sys room fi ws (suc i) ps qs)
+  where
+    go : (b : Bool) (later : Outcome) → wordIn ws (withRoom sys room later) ≡ 0 → wordIn ws (withRoom sys room (cond b (refused 18 i) later)) ≡ 0
+    go true later e = refl
+    go false later e = e
+
 module _ (fi : Bool) (s buffer : List ℕ) (t : Tested) (w : Tests s t) where
-  pub no-sheet : (r : ElementWritten) → (t .number ≡ 0 → ⊥) → r ≡ writtenOf 0 (refused (t .number) (t .place)) → Answered fi s buffer r buffer
+  pub no-sheet : (r : ElementWritten) → (t .number ≡ 0 → ⊥) → r ≡ writtenWith (t .word) (writtenOf 0 (refused (t .number) (t .place)))
+      → Answered fi s buffer r buffer
   unfolding write elementAfter writing tested
   no-sheet r n e = go (sheetTests s) refl (w .answer)
     where
-      go : (o : Outcome) → sheetTests s ≡ o → t ≡ testedOf (systemIn s) o
-          → (r ≡ writtenOf (systemIn s) (withRoom (systemIn s) (length buffer) (andThen o (export (systemIn s) fi))))
+      go : (o : Outcome) → sheetTests s ≡ o → t ≡ testedIn (systemIn s) (wordsIn s) o
+          → (r ≡ writtenIn (systemIn s) (wordsIn s) (withRoom (systemIn s) (length buffer) (andThen o (export (systemIn s) fi))))
           × (buffer ≡ elementIn (systemIn s) buffer (withRoom (systemIn s) (length buffer) (andThen o (export (systemIn s) fi))))
       go (listed ps) q a = absurd (n (ap (λ (x : Tested). x .number) a))
-      go (refused k i) q a = (e ∙ ap (λ (x : Tested). writtenOf 0 (refused (x .number) (x .place))) a, refl)
+      go (refused k i) q a = (e ∙ ap (λ (x : Tested). writtenWith (x .word) (writtenOf 0 (refused (x .number) (x .place)))) a, refl)
 
   module _ (z : t .number ≡ 0) where
     -- the sheet is that of a list, in the system that the tests name
@@ -614,4 +635,7 @@ module _ (fi : Bool) (s buffer : List ℕ) (t : Tested) (w : Tests s t) where
     the-list r after g =
         let o = sheet-of in
         let y : systemIn s ≡ t .system = ap systemIn (o .1 .whole) ∙ system-back (t .system) (o .0) in
-        rw (sheet-read (t .system) (o .0) s (o .1), y) (g (o .0) (o .1))
+        let d = g (o .0) (o .1) in
+        let none = export-word (t .system) (length buffer) fi (wordsIn s) 0 (o .0) (served (t .system) fi (o .0)) in
+        let same = no-word (t .system) (wordsIn s) (withRoom (t .system) (length buffer) (export (t .system) fi (o .0))) none in
+        rw (sheet-read (t .system) (o .0) s (o .1), y) (d .0 ∙ same, d .1)

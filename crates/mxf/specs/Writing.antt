@@ -8,9 +8,9 @@ use mathlib.Core.List.{List, [], _∷_, _++_}
 use lib.Dec.{eqb, leb}
 use lib.ListN.{length, drop}
 use Rattle.rules.specs.Packet.{Packet}
-use Rattle.rules.specs.Sheet.{systemIn}
+use Rattle.rules.specs.Sheet.{systemIn, wordsIn}
 use Rattle.rules.specs.Numbers.{Outcome, listed, refused, unless, andThen}
-use Rattle.rules.specs.Laying.{sheetTests}
+use Rattle.rules.specs.Laying.{wordIn, sheetTests}
 use Rattle.mxf.specs.Element.{elementOf}
 use Rattle.mxf.specs.Served.{serves, served}
 use Rattle.mxf.specs.declared.ElementWritten.{ElementWritten}
@@ -34,8 +34,16 @@ writing fi s room = withRoom (systemIn s) room (andThen (sheetTests s) (export (
 
 -- number, place, packets served, element bytes; on refusal the later figures are 0
 abbrev pub writtenOf : ℕ → Outcome → ElementWritten
-writtenOf sys (listed ps) = record { number = 0; place = 0; packets = length ps; bytes = length (elementOf sys ps) }
-writtenOf sys (refused n i) = record { number = n; place = i; packets = 0; bytes = 0 }
+writtenOf sys (listed ps) = record { number = 0; place = 0; word = 0; packets = length ps; bytes = length (elementOf sys ps) }
+writtenOf sys (refused n i) = record { number = n; place = i; word = 0; packets = 0; bytes = 0 }
+
+-- the word after the place, as laying and the lister pass it on (A2)
+abbrev pub writtenWith : ℕ → ElementWritten → ElementWritten
+writtenWith w r = record { number = r .number; place = r .place; word = w; packets = r .packets; bytes = r .bytes }
+
+-- the same of an outcome, where a refusal's place counts the packets of these words
+abbrev pub writtenIn : ℕ → List ℕ → Outcome → ElementWritten
+writtenIn sys ws o = writtenWith (wordIn ws o) (writtenOf sys o)
 
 -- "target unchanged" on a refusal; past the element it is unchanged on success
 abbrev pub elementIn : ℕ → List ℕ → Outcome → List ℕ
@@ -44,7 +52,7 @@ elementIn sys buffer (refused n i) = buffer
 
 -- what writing gives back, and the element buffer afterwards
 unfoldable pub write : Bool → List ℕ → List ℕ → ElementWritten
-write fi s buffer = writtenOf (systemIn s) (writing fi s (length buffer))
+write fi s buffer = writtenIn (systemIn s) (wordsIn s) (writing fi s (length buffer))
 
 unfoldable pub elementAfter : Bool → List ℕ → List ℕ → List ℕ
 elementAfter fi s buffer = elementIn (systemIn s) buffer (writing fi s (length buffer))

@@ -54,11 +54,12 @@ fn wrapping(system: u64) -> u8
     1
 }
 
-// What writing gives back. Number 0 is success; on refusal packets and bytes are 0.
+// What writing gives back. Number 0 is success; on refusal packets and bytes are 0. 7 to 10 name a word of the packet; else word is 0.
 #[repr(C)]
 pub struct ElementWritten {
     pub number: u64,
     pub place: u64,
+    pub word: u64,
     pub packets: u64,
     pub bytes: u64,
 }

@@ -20,17 +20,18 @@ ghost use Rattle.rules.specs.Demands.{SheetOf};
 ghost use Rattle.sections.specs.Sections.{SectionsOf};
 ghost use Rattle.mxf.specs.Element.{two, three, four, key, coding, bare, structure, elementOf};
 ghost use Rattle.mxf.specs.Served.{serves as servesFlags, served};
-ghost use Rattle.mxf.specs.Writing.{export, withRoom, writtenOf, elementIn};
+ghost use Rattle.mxf.specs.Writing.{export, withRoom, writtenOf, writtenWith, elementIn};
 ghost use Rattle.mxf.specs.Demands.{Writes};
 ghost use Rattle.mxf.specs.Parts.{Sections};
 
-// On refusal the later figures are 0.
-fn refusal(number: u64, place: u64) -> ElementWritten
-    ensures { λ r. ⌜ r ≡ writtenOf 0 (refused number place) ⌝ }
+// On refusal the later figures are 0. The word is the one that the lister's tests name (document 02, A2).
+fn refusal(number: u64, place: u64, word: u64) -> ElementWritten
+    ensures { λ r. ⌜ r ≡ writtenWith word (writtenOf 0 (refused number place)) ⌝ }
 {
     ElementWritten {
         number,
         place,
+        word,
         packets: 0,
         bytes: 0,
     }
@@ -64,7 +65,7 @@ fn measure(system: u64, fi: bool, ls: &[u16], ws: &[u16]) -> ElementWritten
         let dc = low_byte(ws[at + 5]);
         if serves(system, fi, ls[2 * k + 1]) {
             if ls[2 * k] == 0 {
-                return refusal(18, k as u64);
+                return refusal(18, k as u64, 0);
             }
             packets += 1;
             bytes += crate::FIELDS + dc + 3;
@@ -75,6 +76,7 @@ fn measure(system: u64, fi: bool, ls: &[u16], ws: &[u16]) -> ElementWritten
     ElementWritten {
         number: 0,
         place: 0,
+        word: 0,
         packets,
         bytes: bytes as u64,
     }
@@ -211,7 +213,7 @@ fn write_list(system: u64, fi: bool, sheet: &[u16], element: &mut [u8]) -> Eleme
     }
     let n = m.bytes as usize;
     if element.len() < n {
-        return refusal(17, 0);
+        return refusal(17, 0, 0);
     }
     put_element(system, fi, m.packets as u16, ls, ws, &mut element[..n]);
     m
@@ -223,7 +225,7 @@ pub fn write(sheet: &[u16], fi: bool, element: &mut [u8]) -> ElementWritten
 {
     let t = sheet::test(sheet);
     if t.number != 0 {
-        return refusal(t.number, t.place);
+        return refusal(t.number, t.place, t.word);
     }
     write_list(t.system, fi, sheet, element)
 }

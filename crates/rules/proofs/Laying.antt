@@ -20,8 +20,8 @@ use Rattle.rules.specs.Sheet.{systemIn, wordsIn}
 use Rattle.rules.specs.Blocks.{runs, blockSizes, areaSize, scatter, userBytesIn}
 use Rattle.rules.specs.Packings.{isPacking, laidBytes, fits, packsLaid, packsIn}
 use Rattle.rules.specs.Numbers.{Outcome, listed, refused, unless, andThen}
-use Rattle.rules.specs.Laying.{wordAt, wordIn, shaped, listTests, sheetTests, laying, laidOf, laidWith, areaOf, lay, areaAfter}
-use Rattle.rules.specs.Lister.{testedOf, toldOf, tested}
+use Rattle.rules.specs.Laying.{wordAt, shaped, listTests, sheetTests, laying, laidOf, laidIn, areaOf, lay, areaAfter}
+use Rattle.rules.specs.Lister.{testedOf, testedIn, tested}
 use Rattle.rules.specs.Demands.{SheetOf, Tests, Asked, Success, Unlaid, Lays}
 use Rattle.rules.specs.declared.Laid.{Laid}
 use Rattle.rules.specs.declared.Tested.{Tested}
@@ -164,8 +164,7 @@ lays k s area r after er ea =
     y : System
     y = system (systemIn s)
 
-    unlaid : (o : Outcome) → r ≡ laidWith (wordIn (wordsIn s) o) (laidOf k y o) → after ≡ areaOf k y area o → (r .number ≡ 0 → ⊥)
-        → Unlaid r area after
+    unlaid : (o : Outcome) → r ≡ laidIn k y (wordsIn s) o → after ≡ areaOf k y area o → (r .number ≡ 0 → ⊥) → Unlaid r area after
     unlaid (listed ps) p q n = absurd (n (ap (λ (x : Laid). x .number) p))
     unlaid (refused m i) p q n = record { kept = q; packs = ap (λ (x : Laid). x .packs) p; bytes = ap (λ (x : Laid). x .bytes) p }
 
@@ -186,15 +185,13 @@ lays k s area r after er ea =
 module _ (k : ℕ) (s area : List ℕ) where
   -- the two fields of the contract, from the outcome
   abbrev pub Lain : Laid → List ℕ → Outcome → Type 0
-  Lain r after o =
-      (r ≡ laidWith (wordIn (wordsIn s) o) (laidOf k (system (systemIn s)) o)) × (after ≡ areaOf k (system (systemIn s)) area o)
+  Lain r after o = (r ≡ laidIn k (system (systemIn s)) (wordsIn s) o) × (after ≡ areaOf k (system (systemIn s)) area o)
 
   pub lays-outcome : (r : Laid) (after : List ℕ) (o : Outcome) → laying k s area ≡ o → Lain r after o → Lays k s area r after
   unfolding lay areaAfter
   lays-outcome r after o e w =
-      lays k s area r after
-      (w .0 ∙ sym (ap (λ (o : Outcome). laidWith (wordIn (wordsIn s) o) (laidOf k (system (systemIn s)) o)) e))
-      (w .1 ∙ sym (ap (areaOf k (system (systemIn s)) area) e))
+      let y = system (systemIn s) in
+      lays k s area r after (w .0 ∙ sym (ap (laidIn k y (wordsIn s)) e)) (w .1 ∙ sym (ap (areaOf k y area) e))
 
   -- 1: the packing
   pub refuses-packing : isPacking k ≡ false → laying k s area ≡ refused 1 0
@@ -236,10 +233,10 @@ module _ (k : ℕ) (s area : List ℕ) where
         refuses-list n0 =
             let v = past-system in
             let y = system (systemIn s) in
-            let a : t ≡ toldOf (systemIn s) (wordsIn s) (listTests y s) = w .answer ∙ rw (v .0, v .1) in
+            let a : t ≡ testedIn (systemIn s) (wordsIn s) (listTests y s) = w .answer ∙ rw (v .0, v .1) in
             rw (p, v .0, v .1, eq-eqb (length area) (areaSize y) l) (go (listTests y s) a)
           where
-            go : (o : Outcome) → t ≡ toldOf (systemIn s) (wordsIn s) o
+            go : (o : Outcome) → t ≡ testedIn (systemIn s) (wordsIn s) o
                 → andThen o (λ (ps : List Packet). unless 12 (fits k (blockSizes (system (systemIn s))) ps) (listed ps))
                 ≡ refused (t .number) (t .place)
             go (listed ps) e = absurd (n0 (ap (λ (x : Tested). x .number) e))

@@ -18,7 +18,7 @@ use Rattle.rules.specs.Sheet.{systemIn, wordsIn}
 use Rattle.rules.specs.Packing1.{packs, packsOf}
 use Rattle.rules.specs.Numbers.{Outcome, listed, refused, unless}
 use Rattle.rules.specs.Laying.{wordAt, fromPacket, wordIn, shaped, sheetTests}
-use Rattle.rules.specs.Lister.{testedOf, toldOf, tested, fileOf, numbersOf, listing}
+use Rattle.rules.specs.Lister.{testedOf, testedIn, tested, fileOf, numbersOf, listing}
 use Rattle.rules.specs.Demands.{SheetOf, Tests}
 use Rattle.rules.specs.declared.Tested.{Tested}
 use Rattle.rules.proofs.Basics.{never, both, written-back}
@@ -56,7 +56,7 @@ pub word-told : (s : List ℕ) (t : Tested) → Tests s t → (t .number ≡ 0 �
 unfolding tested
 word-told s t w n = go (sheetTests s) (w .answer)
   where
-    go : (o : Outcome) → t ≡ toldOf (systemIn s) (wordsIn s) o
+    go : (o : Outcome) → t ≡ testedIn (systemIn s) (wordsIn s) o
         → t .word ≡ wordIn (wordsIn s) (refused (t .number) (t .place))
     go (listed ps) e = absurd (n (ap (λ (x : Tested). x .number) e))
     go (refused m i) e =

@@ -177,13 +177,17 @@ laidOf k y (refused n i) = record { number = n; place = i; word = 0; packs = 0; 
 abbrev pub laidWith : ℕ → Laid → Laid
 laidWith w r = record { number = r .number; place = r .place; word = w; packs = r .packs; bytes = r .bytes }
 
+-- the same of an outcome, where a refusal's place counts the packets of these words
+abbrev pub laidIn : ℕ → System → List ℕ → Outcome → Laid
+laidIn k y ws o = laidWith (wordIn ws o) (laidOf k y o)
+
 abbrev pub areaOf : ℕ → System → List ℕ → Outcome → List ℕ
 areaOf k y area (listed ps) = scatter (runs y) (laidBytes k (blockSizes y) ps) area
 areaOf k y area (refused n i) = area
 
 -- what laying gives back, and the area afterwards
 unfoldable pub lay : ℕ → List ℕ → List ℕ → Laid
-lay k s area = laidWith (wordIn (wordsIn s) (laying k s area)) (laidOf k (system (systemIn s)) (laying k s area))
+lay k s area = laidIn k (system (systemIn s)) (wordsIn s) (laying k s area)
 
 unfoldable pub areaAfter : ℕ → List ℕ → List ℕ → List ℕ
 areaAfter k s area = areaOf k (system (systemIn s)) area (laying k s area)

@@ -25,12 +25,12 @@ abbrev pub testedWith : ℕ → Tested → Tested
 testedWith w t =
     record { number = t .number; place = t .place; word = w; system = t .system; packets = t .packets; bytes = t .bytes; packs = t .packs }
 
--- what is told of an outcome, where a refusal's place counts the packets of these words
-abbrev pub toldOf : ℕ → List ℕ → Outcome → Tested
-toldOf sys ws o = testedWith (wordIn ws o) (testedOf sys o)
+-- the same of an outcome, where a refusal's place counts the packets of these words
+abbrev pub testedIn : ℕ → List ℕ → Outcome → Tested
+testedIn sys ws o = testedWith (wordIn ws o) (testedOf sys o)
 
 unfoldable pub tested : List ℕ → Tested
-tested s = toldOf (systemIn s) (wordsIn s) (sheetTests s)
+tested s = testedIn (systemIn s) (wordsIn s) (sheetTests s)
 
 abbrev pub firstLine : Tested → List ℕ
 firstLine r = r .system ∷ r .packets ∷ r .bytes ∷ r .packs ∷ []

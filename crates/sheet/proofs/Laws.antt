@@ -38,7 +38,7 @@ use Rattle.rules.specs.Laying.{
   listTests,
   sheetTests,
 }
-use Rattle.rules.specs.Lister.{testedOf, testedWith, toldOf, tested}
+use Rattle.rules.specs.Lister.{testedOf, testedWith, testedIn, tested}
 use Rattle.rules.specs.declared.Fault.{Fault}
 use Rattle.rules.specs.declared.Tested.{Tested}
 use Rattle.rules.proofs.Basics.{both, second-false, rest-part}
@@ -167,19 +167,19 @@ from-next zero ws = refl
 from-next (suc k) ws = from-next k (drop (dcIn ws + 7) ws)
 
 -- what is told of the words: a packet at fault with its word, or figures
-pub told-refused : (sys n k w : ℕ) (ws : List ℕ) (o : Outcome) → (n ≡ 0 → ⊥) → testedOf 0 (refused n k) ≡ testedOf sys o
-    → w ≡ wordAt n (fromPacket k ws) → testedWith w (testedOf 0 (refused n k)) ≡ toldOf sys ws o
-told-refused sys n k w ws (listed ps) h e f = absurd (h (ap (λ (x : Tested). x .number) e))
-told-refused sys n k w ws (refused m i) h e f =
+pub refused-told : (sys n k w : ℕ) (ws : List ℕ) (o : Outcome) → (n ≡ 0 → ⊥) → testedOf 0 (refused n k) ≡ testedOf sys o
+    → w ≡ wordAt n (fromPacket k ws) → testedWith w (testedOf 0 (refused n k)) ≡ testedIn sys ws o
+refused-told sys n k w ws (listed ps) h e f = absurd (h (ap (λ (x : Tested). x .number) e))
+refused-told sys n k w ws (refused m i) h e f =
     let number : n ≡ m = ap (λ (x : Tested). x .number) e in
     let place : k ≡ i = ap (λ (x : Tested). x .place) e in
     ap₂ testedWith (f ∙ ap₂ (λ (a b : ℕ). wordAt a (fromPacket b ws)) number place) e
 
-pub told-figures : (sys k at packs : ℕ) (ws : List ℕ) (o : Outcome) → counted sys k at packs ≡ testedOf sys o
-    → counted sys k at packs ≡ toldOf sys ws o
+pub figures-told : (sys k at packs : ℕ) (ws : List ℕ) (o : Outcome) → counted sys k at packs ≡ testedOf sys o
+    → counted sys k at packs ≡ testedIn sys ws o
 unfolding wordAt
-told-figures sys k at packs ws (listed ps) e = e
-told-figures sys k at packs ws (refused m i) e =
+figures-told sys k at packs ws (listed ps) e = e
+figures-told sys k at packs ws (refused m i) e =
     let number : m ≡ 0 = sym (ap (λ (x : Tested). x .number) e) in
     e ∙ ap (λ (w : ℕ). testedWith w (testedOf sys (refused m i))) (sym (rw number))
 
@@ -237,9 +237,9 @@ module _ (at : ℕ) (ws : List ℕ) (h : at < length ws) (found : Fault) (e : fo
       sym (ap (addTo sys k at packs) (o ∙ ap (λ (n : ℕ). refused n k) (sym fault-is)))
 
   pub at-fault : (f ≡ 0 → ⊥) → (sys k packs : ℕ) (o : Outcome) → wholeFrom sys k at packs ws ≡ testedOf sys o → fromPacket k ws ≡ drop at ws
-      → testedWith (found .word) (testedOf 0 (refused f k)) ≡ toldOf sys ws o
+      → testedWith (found .word) (testedOf 0 (refused f k)) ≡ testedIn sys ws o
   at-fault g sys k packs o i j =
-      told-refused sys f k (found .word) ws o g (fault-first g sys k packs ∙ i) (word-is ∙ ap (wordAt f) (sym j))
+      refused-told sys f k (found .word) ws o g (fault-first g sys k packs ∙ i) (word-is ∙ ap (wordAt f) (sym j))
 
   module _ (z : f ≡ 0) where
     fine : wordsFault (drop at ws) ≡ 0
@@ -300,7 +300,7 @@ paired s ps = unless 11 (eqb (length ps) (countIn s)) (listed (located (location
 -- a sheet's count, as the code has it
 module _ (sys : ℕ) (y : System) (s : List ℕ) (p : ℕ) (is : p ≡ countIn s) where
   -- "laying: P over [1,275]"
-  pub too-many : limit < p → testedOf 0 (refused 5 0) ≡ toldOf sys (wordsIn s) (listTests y s)
+  pub too-many : limit < p → testedOf 0 (refused 5 0) ≡ testedIn sys (wordsIn s) (listTests y s)
   unfolding listTests wordAt
   too-many h = rw (lt-leb (countIn s) limit (omega arith))
 
@@ -326,26 +326,26 @@ module _ (sys : ℕ) (y : System) (s : List ℕ) (p : ℕ) (is : p ≡ countIn s
         )
 
     -- "line or flags out of range"
-    pub out-of-range : (k ≡ p → ⊥) → testedOf 0 (refused 6 k) ≡ toldOf sys (wordsIn s) (listTests y s)
+    pub out-of-range : (k ≡ p → ⊥) → testedOf 0 (refused 6 k) ≡ testedIn sys (wordsIn s) (listTests y s)
     unfolding wordAt
     out-of-range h = rw (from-six, ne-eqb k p h)
 
     -- what the code lends as words, and what it found in them
     module _ (all : k ≡ p) (t : Tested)
-        (found : let ws : List ℕ = take (length s - (3 + 2 * p + 1)) (drop (3 + 2 * p + 1) s) in t ≡ toldOf sys ws (packetsOfWords ws)) where
-      found-is : t ≡ toldOf sys (wordsIn s) (packetsOfWords (wordsIn s))
+        (found : let ws : List ℕ = take (length s - (3 + 2 * p + 1)) (drop (3 + 2 * p + 1) s) in t ≡ testedIn sys ws (packetsOfWords ws)) where
+      found-is : t ≡ testedIn sys (wordsIn s) (packetsOfWords (wordsIn s))
       found-is =
           let e : 3 + 2 * p + 1 ≡ 4 + 2 * countIn s = omega arith in
-          found ∙ ap (λ (ws : List ℕ). toldOf sys ws (packetsOfWords ws)) (rest-part (3 + 2 * p + 1) s ∙ ap (λ (n : ℕ). drop n s) e)
+          found ∙ ap (λ (ws : List ℕ). testedIn sys ws (packetsOfWords ws)) (rest-part (3 + 2 * p + 1) s ∙ ap (λ (n : ℕ). drop n s) e)
 
       from-words : listTests y s ≡ andThen (packetsOfWords (wordsIn s)) (paired s)
       from-words = rw (from-six, eq-eqb k p all)
 
       -- a packet at fault
-      pub packet-refused : (t .number ≡ 0 → ⊥) → t ≡ toldOf sys (wordsIn s) (listTests y s)
-      packet-refused h = go (packetsOfWords (wordsIn s)) found-is ∙ ap (toldOf sys (wordsIn s)) (sym from-words)
+      pub packet-refused : (t .number ≡ 0 → ⊥) → t ≡ testedIn sys (wordsIn s) (listTests y s)
+      packet-refused h = go (packetsOfWords (wordsIn s)) found-is ∙ ap (testedIn sys (wordsIn s)) (sym from-words)
         where
-          go : (o : Outcome) → t ≡ toldOf sys (wordsIn s) o → t ≡ toldOf sys (wordsIn s) (andThen o (paired s))
+          go : (o : Outcome) → t ≡ testedIn sys (wordsIn s) o → t ≡ testedIn sys (wordsIn s) (andThen o (paired s))
           go (refused n i) e = e
           go (listed ps) e = absurd (h (ap (λ (x : Tested). x .number) e))
 
@@ -353,7 +353,7 @@ module _ (sys : ℕ) (y : System) (s : List ℕ) (p : ℕ) (is : p ≡ countIn s
       list-of : t .number ≡ 0 → (ps : List Packet) × (packetsOfWords (wordsIn s) ≡ listed ps) × (t ≡ testedOf sys (listed ps))
       list-of z = go (packetsOfWords (wordsIn s)) refl found-is
         where
-          go : (o : Outcome) → packetsOfWords (wordsIn s) ≡ o → t ≡ toldOf sys (wordsIn s) o
+          go : (o : Outcome) → packetsOfWords (wordsIn s) ≡ o → t ≡ testedIn sys (wordsIn s) o
               → (ps : List Packet) × (packetsOfWords (wordsIn s) ≡ listed ps) × (t ≡ testedOf sys (listed ps))
           go (listed ps) q e = (ps, q, e)
           go (refused n i) q e =
@@ -362,7 +362,7 @@ module _ (sys : ℕ) (y : System) (s : List ℕ) (p : ℕ) (is : p ≡ countIn s
               absurd (omega arith)
 
       -- "packets and locations differ in number"
-      pub differ : t .number ≡ 0 → not (eqb (t .packets) p) ≡ true → testedOf 0 (refused 11 0) ≡ toldOf sys (wordsIn s) (listTests y s)
+      pub differ : t .number ≡ 0 → not (eqb (t .packets) p) ≡ true → testedOf 0 (refused 11 0) ≡ testedIn sys (wordsIn s) (listTests y s)
       unfolding wordAt
       differ z h =
           let l = list-of z in
@@ -371,7 +371,7 @@ module _ (sys : ℕ) (y : System) (s : List ℕ) (p : ℕ) (is : p ≡ countIn s
           rw (from-words, l .1, ne-eqb (length (l .0)) (countIn s) (λ e. d (n ∙ e ∙ sym is)))
 
       -- and the list stands
-      pub whole : t .number ≡ 0 → not (eqb (t .packets) p) ≡ false → t ≡ toldOf sys (wordsIn s) (listTests y s)
+      pub whole : t .number ≡ 0 → not (eqb (t .packets) p) ≡ false → t ≡ testedIn sys (wordsIn s) (listTests y s)
       whole z h =
           let l = list-of z in
           let d : t .packets ≡ p = eqb-true (t .packets) p (not-false (eqb (t .packets) p) h) in
@@ -398,8 +398,8 @@ module _ (s : List ℕ) where
 
     -- and the list's own tests
     pub the-list : (x .sequences ≡ 0 → ⊥) → (r : Tested)
-        → ((y : System) → y .last ≡ x .«last_line» .0 → r ≡ toldOf sys (wordsIn s) (listTests y s)) → r ≡ tested s
+        → ((y : System) → y .last ≡ x .«last_line» .0 → r ≡ testedIn sys (wordsIn s) (listTests y s)) → r ≡ tested s
     unfolding tested sheetTests
     the-list z r h =
         rw (sh, is-known (systemIn s) x named z)
-        (h (system (systemIn s)) (sym (last-is (systemIn s) x named)) ∙ ap (λ (n : ℕ). toldOf n (wordsIn s) (listTests (system (systemIn s)) s)) is)
+        (h (system (systemIn s)) (sym (last-is (systemIn s) x named)) ∙ ap (λ (n : ℕ). testedIn n (wordsIn s) (listTests (system (systemIn s)) s)) is)

@@ -8,7 +8,7 @@ ghost use Rattle.rules.specs.Systems.{System};
 ghost use Rattle.rules.specs.Sheet.{wordsIn};
 ghost use Rattle.rules.specs.Numbers.{refused};
 ghost use Rattle.rules.specs.Laying.{packetsOfWords, shaped, listTests};
-ghost use Rattle.rules.specs.Lister.{testedOf, testedWith, toldOf};
+ghost use Rattle.rules.specs.Lister.{testedOf, testedWith, testedIn};
 ghost use Rattle.rules.specs.Demands.{Tests};
 ghost use Rattle.sheet.specs.Standing.{standingIn};
 
@@ -75,7 +75,7 @@ fn standing(last: Line, ls: &[u16]) -> usize
 // "Then packet by packet", "packets back to back": the first packet at fault, or the figures of all of them.
 // "A DANC packet has as many bytes as its VANC packet has words, DC + 7." "A packet takes 2 + DC/4 packs, the quotient rounded up."
 fn packets(system: u64, ws: &[u16]) -> Tested
-    ensures { λ r. ⌜ r ≡ toldOf system (now (ws .entry)) (packetsOfWords (now (ws .entry))) ⌝ }
+    ensures { λ r. ⌜ r ≡ testedIn system (now (ws .entry)) (packetsOfWords (now (ws .entry))) ⌝ }
 {
     let table = packet::words();
     let mut at = 0;
@@ -105,7 +105,7 @@ fn packets(system: u64, ws: &[u16]) -> Tested
 // The tests of the list: "5 | laying: P over [1,275]", 6, 7 to 10 packet by packet, "11 | packets and locations differ in number".
 fn list_tests(system: u64, last: Line, s: &[u16]) -> Tested
     requires { ⌜ shaped (now s) ≡ true ⌝ }
-    ensures { λ r. ⌜ ((y : System) → y .last ≡ last .0 → r ≡ toldOf system (wordsIn (now (s .entry))) (listTests y (now (s .entry)))) ⌝ }
+    ensures { λ r. ⌜ ((y : System) → y .last ≡ last .0 → r ≡ testedIn system (wordsIn (now (s .entry))) (listTests y (now (s .entry)))) ⌝ }
 {
     let p = wide(s[2]);
     if p > frame::LIMIT {

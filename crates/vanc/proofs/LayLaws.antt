@@ -21,8 +21,8 @@ use Rattle.rules.specs.Blocks.{shift, width, runs, blockSizes, areaSize, scatte
 use Rattle.rules.specs.Packing1.{flat, packs, packsOf}
 use Rattle.rules.specs.Packing2.{fill, longPacks, stringRoom, longCount}
 use Rattle.rules.specs.Packings.{isPacking, userBytes, laidBytes, capacity, needed, fits, packsLaid}
-use Rattle.rules.specs.Numbers.{listed, refused}
-use Rattle.rules.specs.Laying.{shaped, laidOf, areaOf}
+use Rattle.rules.specs.Numbers.{listed, refused, unless}
+use Rattle.rules.specs.Laying.{wordAt, shaped, laidOf, laidWith, laidIn, areaOf}
 use Rattle.rules.specs.Lister.{testedOf}
 use Rattle.rules.specs.Demands.{Tests, Lays}
 use Rattle.rules.specs.declared.Laid.{Laid}
@@ -31,7 +31,7 @@ use Rattle.rules.proofs.Basics.{written-back}
 use Rattle.rules.proofs.Words.{words-room}
 use Rattle.rules.proofs.Blocks.{facts-of, scatter-front, each-system}
 use Rattle.rules.proofs.Packs.{flat-length}
-use Rattle.rules.proofs.Lister.{bytes-counted, packs-laid-counted}
+use Rattle.rules.proofs.Lister.{word-told, bytes-counted, packs-laid-counted}
 use Rattle.rules.proofs.Users.{users-length}
 use Rattle.rules.proofs.Laying.{lays-outcome, refuses-packing, refuses-shape, refuses-system, past-system, refuses-area, refuses-list, passed-list}
 use Rattle.frame.specs.Systems.{figuresOf}
@@ -177,7 +177,7 @@ module _ (sys : ℕ) (ps : List Packet) (t : Tested) (e : t ≡ testedOf sys (li
   room2 = (ap (λ (h : Figures). h .«string_bytes») (x ∙ ap figuresOf its), ap (λ (v : Tested). v .bytes) e)
 
 abbrev success : ℕ → ℕ → Laid
-success n bytes = record { number = 0; place = 0; packs = n; bytes = bytes }
+success n bytes = record { number = 0; place = 0; word = 0; packs = n; bytes = bytes }
 
 abbrev Given : ℕ → ℕ → List Packet → List ℕ → Laid → List ℕ → Type 0
 Given k sys ps area r after =
@@ -267,7 +267,7 @@ packing-2 k n e = rw (ne-eqb k 1 n, eq-eqb k 2 e)
 module _ (k : ℕ) (s area : List ℕ) where
   -- 1
   pub no-packing : (r : Laid) → (k ≡ 1 → ⊥) → (k ≡ 2 → ⊥) → r ≡ laidOf 1 (system 1) (refused 1 0) → Lays k s area r area
-  unfolding isPacking
+  unfolding isPacking wordAt
   no-packing r a b q =
       let e : isPacking k ≡ false = rw (ne-eqb k 1 a, ne-eqb k 2 b) in
       lays-outcome k s area r area (refused 1 0) (refuses-packing k s area e) (q, refl)
@@ -275,12 +275,16 @@ module _ (k : ℕ) (s area : List ℕ) where
   module _ (pk : isPacking k ≡ true) (t : Tested) (w : Tests s t) where
     -- 2 and 3
     pub no-shape : (r : Laid) → t .number ≡ 2 → r ≡ laidOf 1 (system 1) (refused (t .number) 0) → Lays k s area r area
+    unfolding wordAt
     no-shape r n q =
-        lays-outcome k s area r area (refused (t .number) 0) (refuses-shape k s area pk t w n ∙ ap (λ (m : ℕ). refused m 0) (sym n)) (q, refl)
+        lays-outcome k s area r area (refused 2 0) (refuses-shape k s area pk t w n)
+        (q ∙ ap (λ (m : ℕ). laidOf 1 (system 1) (refused m 0)) n, refl)
 
     pub no-system : (r : Laid) → t .number ≡ 3 → r ≡ laidOf 1 (system 1) (refused (t .number) 0) → Lays k s area r area
+    unfolding wordAt
     no-system r n q =
-        lays-outcome k s area r area (refused (t .number) 0) (refuses-system k s area pk t w n ∙ ap (λ (m : ℕ). refused m 0) (sym n)) (q, refl)
+        lays-outcome k s area r area (refused 3 0) (refuses-system k s area pk t w n)
+        (q ∙ ap (λ (m : ℕ). laidOf 1 (system 1) (refused m 0)) n, refl)
 
     module _ (n2 : t .number ≡ 2 → ⊥) (n3 : t .number ≡ 3 → ⊥) where
       pub is-shaped : shaped s ≡ true
@@ -302,19 +306,31 @@ past-three k s t g x pk w n2 n3 is gx =
 module _ (k : ℕ) (s area : List ℕ) (t : Tested) (g : Figures) (p : Past k s t g) where
   -- 4
   pub no-area : (r : Laid) → (length area ≡ g .area → ⊥) → r ≡ laidOf 1 (system 1) (refused 4 0) → Lays k s area r area
+  unfolding wordAt
   no-area r l q =
       let e = refuses-area k s area (p .packing) t (p .tests) (p .two) (p .three) (λ e. l (e ∙ sym (p .area))) in
       lays-outcome k s area r area (refused 4 0) e (q, refl)
 
   module _ (l : length area ≡ g .area) where
-    -- 5 to 11
-    pub no-list : (r : Laid) → (t .number ≡ 0 → ⊥) → r ≡ laidOf 1 (system 1) (refused (t .number) (t .place)) → Lays k s area r area
+    -- 5 to 11, and 7 to 10 with the word
+    pub no-list : (r : Laid) → (t .number ≡ 0 → ⊥) → r ≡ laidWith (t .word) (laidOf 1 (system 1) (refused (t .number) (t .place)))
+        → Lays k s area r area
     no-list r n q =
         let e = refuses-list k s area (p .packing) t (p .tests) (p .two) (p .three) (l ∙ p .area) n in
-        lays-outcome k s area r area (refused (t .number) (t .place)) e (q, refl)
+        let w = word-told s t (p .tests) n in
+        lays-outcome k s area r area (refused (t .number) (t .place)) e
+        (q ∙ ap (λ (m : ℕ). laidWith m (laidOf 1 (system 1) (refused (t .number) (t .place)))) w, refl)
 
     -- 12, and success
     pub the-list : (r : Laid) (after : List ℕ) → t .number ≡ 0 → LaysList k t s area r after → Lays k s area r after
+    unfolding wordAt
     the-list r after n v =
         let o = passed-list k s area (p .packing) t (p .tests) (p .two) (p .three) (l ∙ p .area) n in
-        lays-outcome k s area r after (lastTest k (systemIn s) (o .0)) (o .3) (v .laid (systemIn s) (o .0) (o .1) (o .2))
+        let d = v .laid (systemIn s) (o .0) (o .1) (o .2) in
+        lays-outcome k s area r after (lastTest k (systemIn s) (o .0)) (o .3) (d .0 ∙ no-word (fits k (blockSizes (system (systemIn s))) (o .0)), d .1)
+      where
+        -- neither names a word
+        no-word : (b : Bool) {ps : List Packet} → let y = system (systemIn s) in
+            laidOf k y (unless 12 b (listed ps)) ≡ laidIn k y (wordsIn s) (unless 12 b (listed ps))
+        no-word true = refl
+        no-word false = refl

@@ -6,17 +6,18 @@ use sheet::wide;
 ghost use mathlib.Core.Path.{_≡_};
 ghost use Rattle.rules.specs.Systems.{system};
 ghost use Rattle.rules.specs.Numbers.{refused};
-ghost use Rattle.rules.specs.Laying.{laidOf};
+ghost use Rattle.rules.specs.Laying.{laidOf, laidWith};
 ghost use Rattle.rules.specs.Demands.{Lays};
 ghost use Rattle.vanc.specs.Lay.{LaysInto, LaysList};
 
-// "On refusal the later figures are 0".
-fn refusal(number: u64, place: u64) -> Laid
-    ensures { λ r. ⌜ r ≡ laidOf 1 (system 1) (refused number place) ⌝ }
+// "On refusal the later figures are 0". The word is the one that the sheet's tests name (document 02, A2).
+fn refusal(number: u64, place: u64, word: u64) -> Laid
+    ensures { λ r. ⌜ r ≡ laidWith word (laidOf 1 (system 1) (refused number place)) ⌝ }
 {
     Laid {
         number,
         place,
+        word,
         packs: 0,
         bytes: 0,
     }
@@ -51,23 +52,25 @@ fn lay_list(packing: u64, t: Tested, sheet: &[u16], area: &mut [u8]) -> Laid
     let ws = sections::section_c(sheet);
     if packing == 1 {
         if t.packs > figures.packs as u64 {
-            return refusal(12, 0);
+            return refusal(12, 0, 0);
         }
         lay1(t.system, ls, ws, area);
         return Laid {
             number: 0,
             place: 0,
+            word: 0,
             packs: t.packs,
             bytes: t.bytes,
         };
     }
     if t.bytes > figures.string_bytes as u64 {
-        return refusal(12, 0);
+        return refusal(12, 0, 0);
     }
     lay2(t.system, ls, ws, area);
     Laid {
         number: 0,
         place: 0,
+        word: 0,
         packs: packing2::long_count(t.bytes as usize) as u64,
         bytes: t.bytes,
     }
@@ -78,18 +81,18 @@ pub fn lay(sheet: &[u16], packing: u64, area: &mut [u8]) -> Laid
     ensures { λ r. ⌜ Lays packing (now (sheet .entry)) (now (area .entry)) r (now (area .exit)) ⌝ }
 {
     if packing != 1 && packing != 2 {
-        return refusal(1, 0);
+        return refusal(1, 0, 0);
     }
     let t = sheet::test(sheet);
     if t.number == 2 || t.number == 3 {
-        return refusal(t.number, 0);
+        return refusal(t.number, 0, 0);
     }
     let figures = frame::figures_of(wide(sheet[1]) as u64);
     if area.len() != figures.area {
-        return refusal(4, 0);
+        return refusal(4, 0, 0);
     }
     if t.number != 0 {
-        return refusal(t.number, t.place);
+        return refusal(t.number, t.place, t.word);
     }
     lay_list(packing, t, sheet, area)
 }

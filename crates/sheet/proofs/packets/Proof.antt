@@ -8,7 +8,7 @@ use lib.ListN.{length, getD, take, drop}
 use borrow.Author.Needs.{needs}
 use Rattle.rules.specs.Laying.{faultOf, fromPacket, packetsOfWords}
 use Rattle.rules.specs.Lister.{testedOf}
-use Rattle.sheet.proofs.Laws.{wholeFrom, told-figures, at-first, at-end, at-fault, all-there, from-there, at-next}
+use Rattle.sheet.proofs.Laws.{wholeFrom, figures-told, at-first, at-end, at-fault, all-there, from-there, at-next}
 use Rattle.sheet.proofs.packets.Statement.{statement}
 use Rattle.sheet.proofs.packets.Tie as tie
 
@@ -125,7 +125,7 @@ loop-again c =
 returns-2 : tie.Need-returns-2 Inv-loop μ-loop
 returns-2 c =
     let ws = c .before .before .before .before .args .ws .now in
-    told-figures _ _ _ _ ws (packetsOfWords ws) (at-end _ _ _ _ ws (c .loop-test .left) ∙ c .before .loop .inv .3)
+    figures-told _ _ _ _ ws (packetsOfWords ws) (at-end _ _ _ _ ws (c .loop-test .left) ∙ c .before .loop .inv .3)
 
 pub packets-spec : {M : Type 1} → statement M
 packets-spec =
