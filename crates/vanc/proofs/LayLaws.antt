@@ -327,10 +327,11 @@ module _ (k : ℕ) (s area : List ℕ) (t : Tested) (g : Figures) (p : Past k s 
     the-list r after n v =
         let o = passed-list k s area (p .packing) t (p .tests) (p .two) (p .three) (l ∙ p .area) n in
         let d = v .laid (systemIn s) (o .0) (o .1) (o .2) in
-        lays-outcome k s area r after (lastTest k (systemIn s) (o .0)) (o .3) (d .0 ∙ no-word (fits k (blockSizes (system (systemIn s))) (o .0)), d .1)
+        let none = no-word (o .0) (fits k (blockSizes (system (systemIn s))) (o .0)) in
+        lays-outcome k s area r after (lastTest k (systemIn s) (o .0)) (o .3) (d .0 ∙ none, d .1)
       where
         -- neither names a word
-        no-word : (b : Bool) {ps : List Packet} → let y = system (systemIn s) in
-            laidOf k y (unless 12 b (listed ps)) ≡ laidIn k y (wordsIn s) (unless 12 b (listed ps))
-        no-word true = refl
-        no-word false = refl
+        no-word : (ps : List Packet) (b : Bool)
+            → laidOf k (system (systemIn s)) (unless 12 b (listed ps)) ≡ laidIn k (system (systemIn s)) (wordsIn s) (unless 12 b (listed ps))
+        no-word ps true = refl
+        no-word ps false = refl
