@@ -3,13 +3,21 @@
 use frame::StringByte;
 use mxf::ElementRead;
 use mxf::ElementWritten;
+use rules::Judged;
 use rules::Laid;
 use rules::ReadBack;
 use rules::Step;
 ghost use mathlib.Core.Path.{_≡_};
-ghost use Rattle.rules.specs.Demands.{Lays, Reads};
+ghost use Rattle.rules.specs.Demands.{Judges, Lays, Reads};
 ghost use Rattle.mxf.specs.Demands.{Writes as WritesElement, Reads as ReadsElement};
 ghost use Rattle.rules.specs.Walker.{walk as walked};
+
+#[no_mangle]
+pub extern "C" fn vanc_test_packet(words: &[u16]) -> Judged
+    ensures { λ r. ⌜ Judges (now (words .entry)) r ⌝ }
+{
+    packet::fault(words)
+}
 
 #[no_mangle]
 pub extern "C" fn vanc_lay(sheet: &[u16], packing: u64, area: &mut [u8]) -> Laid

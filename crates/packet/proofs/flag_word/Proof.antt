@@ -32,10 +32,11 @@ shared-slice-read-if4 c = let l = first (c .before .before) .0 in omega arith
 
 returns-2 : tie.Need-returns-2
 returns-2 c =
+    let ws = c .before .before .before .before .args .ws .now in
     let f = first (c .before) in
     ⊎-elim
-    (λ w. flag-1 _ (f .0) (f .1) (λ l e. absurd (omega (arith, w .taken))))
-    (λ w. flag-1 _ (f .0) (f .1) (λ l. eqb-false _ 0x3FF (not-true _ (w .2 .taken))))
+    (λ w. flag-1 ws (f .0) (f .1) (λ l e. absurd (omega (arith, w .taken))))
+    (λ w. flag-1 ws (f .0) (f .1) (λ l. eqb-false _ 0x3FF (not-true _ (w .2 .taken))))
     (c .if3 .came)
 
 shared-slice-read-if6 : tie.Need-shared-slice-read-if6
