@@ -100,7 +100,7 @@ def fill(system, packing):
     s = sheet_of(system, packets)
     save(f"fill_{packing}_{system}.sheet", pack(s))
     area = bytearray(noise[system])
-    number, _, packs, string = lay(packing, s, area)
+    number, _, _, packs, string = lay(packing, s, area)
     assert (number, packs) == (0, [{1: 1560, 2: 1872, 3: 1560}, {1: 120, 2: 144, 3: 120}][packing - 1][system])
     save(f"fill_{packing}_{system}.area", area)
     save(f"fill_{packing}_{system}.laid", f"laid packs {packs} bytes {string}\n".encode())
@@ -156,14 +156,14 @@ def of_samples():
         area = bytearray(load("frame.area"))
         assert lay(packing, cue, area)[0] == 0
         save(f"laid_{packing}.area", area)
-    film = [p for p in sheet_tests(load_sheet("film.sheet"))[2] if p[1] & 1 == 0]
+    film = [p for p in sheet_tests(load_sheet("film.sheet"))[3] if p[1] & 1 == 0]
     save("film.anc", element(3, film))
     save("film_0.sheet", pack(sheet_of(3, film)))
 
 
 def refused_sheets():
     cue = load_sheet("cue.sheet")
-    _, _, packets = sheet_tests(cue)
+    _, _, _, packets = sheet_tests(cue)
     locations, each = [(line, flags) for line, flags, _ in packets], [words for _, _, words in packets]
 
     def refused(number, place, name, s):
@@ -207,7 +207,7 @@ def refused_sheets():
 
 
 def refused_areas():
-    _, _, packets = sheet_tests(load_sheet("cue.sheet"))
+    _, _, _, packets = sheet_tests(load_sheet("cue.sheet"))
 
     def refused(number, place, packing, user):
         area = bytearray(noise[1])
