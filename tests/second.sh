@@ -53,6 +53,10 @@ else
   # The packet limit one too low, and the place of a late packet in ten bits.
   differs rules.rs 'MOST_PACKETS: usize = 1_275' 'MOST_PACKETS: usize = 1_274'
   differs rules.rs '(number, k as u64))' '(number, k as u64 % 1_024))' 3000
+  # The word at fault: counted from DID or from the first user word; for 9 where CS would stand; for 7 the missing word before a wrong one.
+  differs packet.rs 'fault(8, first + k)' 'fault(8, k)'
+  differs packet.rs 'fault(9, words.len())' 'fault(9, dc + 6)'
+  differs packet.rs 'wrong_flag.unwrap_or(words.len())' 'wrong_flag.filter(|_| words.len() > 6).unwrap_or(words.len())'
   echo "second: a changed rule is found"
   # Each buffer ends at a page that cannot be touched.
   "$work/second" 376 "$fenced" "${answer[@]}" fence >"$work/log" || { cat "$work/log"; exit 1; }
