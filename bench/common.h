@@ -1,4 +1,7 @@
-/* What both baselines say alike. Where they differ, each has its own `packet_fault` and `all_fill`, and its own laying, opening and writing. */
+/*
+ * What both baselines say alike. Where they differ, each has its own `packet_fault`, `is_word` and `all_fill`, and its own laying, opening and
+ * writing.
+ */
 #ifndef COMMON_H
 #define COMMON_H
 
@@ -16,6 +19,9 @@ static const struct {
 
 /* The first fault of the packet at the front of some words, 0 for none. */
 static unsigned packet_fault(const uint16_t *words, size_t left);
+
+/* Whether a word is its byte with parity. */
+static bool is_word(uint16_t word);
 
 static bool all_fill(const uint8_t *bytes, size_t size);
 
@@ -59,6 +65,40 @@ static unsigned count_packets(const uint16_t *words, size_t length, size_t *pack
         at += user + 7;
     }
     return 0;
+}
+
+/* The first word at fault of the packet at the front of some words, which has this fault. */
+static size_t word_at_fault(unsigned fault, const uint16_t *words, size_t left)
+{
+    static const uint16_t flag[3] = { 0x000, 0x3FF, 0x3FF };
+    size_t word = 0;
+    switch (fault) {
+    case 7:
+        while (word < 3 && word < left && words[word] == flag[word])
+            word++;
+        return word < 3 ? word : left;
+    case 8:
+        word = 3;
+        while (is_word(words[word]))
+            word++;
+        return word;
+    case 9:
+        return left;
+    default:
+        return (words[5] & 0xFF) + 6u;
+    }
+}
+
+/*
+ * The refusal of packet `place`. Its words are looked for only now, behind the sound packets, and out of line: a sound packet does not pay for
+ * it, neither by a place that is kept nor by registers, which its loops would lack.
+ */
+__attribute__((noinline)) static vanc_laid packet_refusal(unsigned fault, size_t place, const uint16_t *words, size_t length)
+{
+    size_t at = 0;
+    for (size_t k = 0; k < place; k++)
+        at += (words[at + 5] & 0xFF) + 7u;
+    return (vanc_laid){ .number = fault, .place = place, .word = word_at_fault(fault, words + at, length - at) };
 }
 
 /* 15 and 16 of the DANC packet at the front of some bytes. */

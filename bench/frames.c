@@ -155,7 +155,7 @@ static void lay_times(uint64_t packing, long times)
     vanc_laid r = { 0 };
     for (long k = 0; k < times; k++)
         r = LAY(sheet, 4 + 2 * packets + words, packing, area, area_size);
-    printf("%lu %lu %lu %lu %016lx\n", r.number, r.place, r.packs, r.bytes, hash(area, sizeof area));
+    printf("%lu %lu %lu %lu %lu %016lx\n", r.number, r.place, r.word, r.packs, r.bytes, hash(area, sizeof area));
 }
 
 static void read_times(uint64_t system, long times)

@@ -175,7 +175,7 @@ vanc_laid baseline_lay(const uint16_t *sheet, size_t sheet_len, uint64_t packing
     size_t packets, packs;
     fault = count_packets(words, length, &packets, &packs);
     if (fault != 0)
-        return lay_refusal(fault, packets);
+        return packet_refusal(fault, packets, words, length);
     if (packets != count)
         return lay_refusal(11, 0);
     if (packing == 1 ? packs > 156 * n : length > 744 * n)
@@ -191,7 +191,7 @@ vanc_laid baseline_lay(const uint16_t *sheet, size_t sheet_len, uint64_t packing
         packs = lay_long(n, string, length, bytes);
     }
     spread(n, bytes, area);
-    return (vanc_laid){ 0, 0, packs, length };
+    return (vanc_laid){ .packs = packs, .bytes = length };
 }
 
 static bool all_fill(const uint8_t *bytes, size_t size)

@@ -13,6 +13,11 @@ static inline uint16_t word_of(uint16_t byte)
     return (uint16_t)(byte + 512 - (x << 8));
 }
 
+static bool is_word(uint16_t word)
+{
+    return word == word_of(word & 0xFF);
+}
+
 static inline uint16_t check_of(uint16_t sum)
 {
     return (uint16_t)(((sum & 0x1FF) ^ 0x100) + 0x100);
@@ -168,7 +173,7 @@ vanc_laid baseline_lay(const uint16_t *sheet, size_t sheet_len, uint64_t packing
     size_t packets, packs;
     fault = count_packets(words, length, &packets, &packs);
     if (fault != 0)
-        return lay_refusal(fault, packets);
+        return packet_refusal(fault, packets, words, length);
     if (packets != count)
         return lay_refusal(11, 0);
     if (packing == 1 ? packs > 156 * n : length > 744 * n)
@@ -182,7 +187,7 @@ vanc_laid baseline_lay(const uint16_t *sheet, size_t sheet_len, uint64_t packing
     else
         packs = lay_long(string, length, bytes);
     spread(n, bytes, area);
-    return (vanc_laid){ 0, 0, packs, length };
+    return (vanc_laid){ .packs = packs, .bytes = length };
 }
 
 static bool all_fill(const uint8_t *bytes, size_t size)

@@ -28,16 +28,12 @@ static const uint16_t first[] = {
 static uint8_t element[VANC_ELEMENT_MAX];
 static uint16_t back[VANC_ELEMENT_SHEET_MAX];
 
-static void print_refusal(uint64_t number, uint64_t place)
-{
-    printf("refused %" PRIu64 " at %" PRIu64 ": %s\n", number, place, vanc_refusal_text(number));
-}
-
 static size_t write_element(bool fi)
 {
     vanc_element_written written = vanc_mxf_write(sheet, sizeof sheet / sizeof sheet[0], fi, element, sizeof element);
     if (written.number != VANC_DONE) {
-        print_refusal(written.number, written.place);
+        printf("refused %" PRIu64 " at %" PRIu64 " %" PRIu64 ": %s\n", written.number, written.place, written.word,
+               vanc_refusal_text(written.number));
         return 0;
     }
     printf("written packets %" PRIu64 " bytes %" PRIu64 "\n", written.packets, written.bytes);
@@ -57,6 +53,6 @@ int main(void)
     }
     element[15] = 0; /* the end of the key */
     read = vanc_mxf_read(3, false, element, bytes, back, VANC_ELEMENT_SHEET_MAX);
-    print_refusal(read.number, read.place);
+    printf("refused %" PRIu64 " at %" PRIu64 ": %s\n", read.number, read.place, vanc_refusal_text(read.number));
     return read.number != VANC_REFUSED_ELEMENT || memcmp(first, back, sizeof first) != 0;
 }

@@ -1,5 +1,6 @@
 /*
- * Lays two packets into the area of a 1080/60i frame, reads them back, and walks over the same two packets as a string.
+ * Lays two packets into the area of a 1080/60i frame, reads them back, and walks over the same two packets as a string. Then it tests a packet, as it
+ * is and with a wrong word.
  *
  *     ./build
  *     cc -I include examples/frame.c target/staticlib/libvanc.a -o frame
@@ -20,9 +21,16 @@ static const uint16_t sheet[] = {
 
 #define SHEET_LEN (sizeof sheet / sizeof sheet[0])
 
-static int refused(uint64_t number, uint64_t place)
+/* The word is of the packet at that place, for 7 to 10, and else 0. */
+static int lay_refused(vanc_laid laid)
 {
-    printf("refused %" PRIu64 " at %" PRIu64 ": %s\n", number, place, vanc_refusal_text(number));
+    printf("refused %" PRIu64 " at %" PRIu64 " %" PRIu64 ": %s\n", laid.number, laid.place, laid.word, vanc_refusal_text(laid.number));
+    return 1;
+}
+
+static int read_refused(vanc_read_back read)
+{
+    printf("refused %" PRIu64 " at %" PRIu64 ": %s\n", read.number, read.place, vanc_refusal_text(read.number));
     return 1;
 }
 
@@ -33,13 +41,13 @@ static int lay_and_read(uint64_t packing)
 
     vanc_laid laid = vanc_lay(sheet, SHEET_LEN, packing, area, sizeof area);
     if (laid.number != VANC_DONE) {
-        return refused(laid.number, laid.place);
+        return lay_refused(laid);
     }
     printf("laid packs %" PRIu64 " bytes %" PRIu64 "\n", laid.packs, laid.bytes);
 
     vanc_read_back read = vanc_read(1, area, sizeof area, back, VANC_SHEET_MAX);
     if (read.number != VANC_DONE) {
-        return refused(read.number, read.place);
+        return read_refused(read);
     }
     printf("read packing %" PRIu64 " packets %" PRIu64 " numbers %" PRIu64 "\n", read.packing, read.packets, read.numbers);
     return read.numbers != SHEET_LEN || memcmp(sheet, back, sizeof sheet) != 0;
@@ -59,9 +67,22 @@ static int walk(void)
     return step.number != VANC_DONE || step.place != sizeof string;
 }
 
+/* The sheet's first packet, and then one bit of its second user word, which is word 7 of the packet. */
+static int test(void)
+{
+    uint16_t words[9];
+    memcpy(words, sheet + 8, sizeof words);
+    vanc_judged judged = vanc_test_packet(words, 9);
+    printf("a packet of type %" PRIu64 "\n", judged.kind);
+    words[7] ^= 0x001;
+    judged = vanc_test_packet(words, 9);
+    printf("refused %" PRIu64 ", word %" PRIu64 ": %s\n", judged.number, judged.word, vanc_refusal_text(judged.number));
+    return judged.number != VANC_REFUSED_WORD || judged.word != 7;
+}
+
 int main(void)
 {
-    if (lay_and_read(1) || lay_and_read(2) || walk()) {
+    if (lay_and_read(1) || lay_and_read(2) || walk() || test()) {
         return 1;
     }
     puts("the same sheet came back, in both packings");

@@ -8,6 +8,7 @@
 struct Laid {
     number: u64,
     place: u64,
+    word: u64,
     packs: u64,
     bytes: u64,
 }
@@ -43,7 +44,7 @@ fn main() {
     for packing in [1, 2] {
         let mut area = [0u8; 9600];
         let laid = lay(&sheet, packing, &mut area);
-        assert_eq!((laid.number, laid.place), (0, 0));
+        assert_eq!((laid.number, laid.place, laid.word), (0, 0, 0));
         println!("laid packs {} bytes {}", laid.packs, laid.bytes);
         let mut back = [0u16; 11482];
         let read = read(1, &area, &mut back);

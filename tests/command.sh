@@ -3,8 +3,8 @@
 # error byte for byte, and every file afterwards: bytes, modes, owners, links, and that none is beside them.
 #
 # In order: help; there and back; arguments; names; outputs that are no files; the same file twice; links; modes and owners; files without permission;
-# sheets, areas and elements at their limits; a lighting desk's cues; refusals and their words; elements of other programs; streams; calls that fail;
-# runs that are killed, and many at once; scripts.
+# sheets, areas and elements at their limits; a lighting desk's cues; refusals and their words; the word at fault of a packet; elements of other
+# programs; streams; calls that fail; runs that are killed, and many at once; scripts.
 set -euo pipefail
 export LC_ALL=C
 umask 022
@@ -44,8 +44,8 @@ root=false
 [ "$(id -u)" != 0 ] || root=true
 
 # A test sets these for a run: the calls that fail (tests/failing.c); the function that starts the command; what stands before each line on standard
-# error; other words that would be as right; a second line of a refusal. The run is in `this`.
-fault= start=vanc front='vanc: ' or= second= this=
+# error; other words that would be as right; a second line of a refusal; the word of a packet that is refused. The run is in `this`.
+fault= start=vanc front='vanc: ' or= second= at_word=0 this=
 
 # ---- how a run is made and looked at
 
@@ -140,9 +140,12 @@ wrong() {
   sees untouched
 }
 
-# refused NUMBER PLACE WHAT ARGUMENTS..: the rules refuse it. WHAT is what is at fault, and where.
+# refused NUMBER PLACE WHAT ARGUMENTS..: the rules refuse it. WHAT is what is at fault, and where. The commands that are given a sheet print the word
+# behind the place, whatever the number.
 refused() {
-  expect 1 "refused $1 at $2" "$3: ${refusals[$1]}${second:+$'\n'$second}" "${@:4}"
+  local printed="refused $1 at $2"
+  [[ $4 == *read ]] || printed+=" $at_word"
+  expect 1 "$printed" "$3: ${refusals[$1]}${second:+$'\n'$second}" "${@:4}"
   sees untouched
 }
 
@@ -832,14 +835,14 @@ for y in 1 2 3; do
     gives film.anc ${size}_$y.anc "written packets $most bytes $bytes" mxf-write 0 $sheet film.anc
   done
   for sheet in {1,65535,65537,65538,65600,131072,twice,over_$y}.sheet; do
-    lists $sheet 1 "refused 2 at 0" "${refusals[2]}" "$even"
+    lists $sheet 1 "refused 2 at 0 0" "${refusals[2]}" "$even"
     second="$sheet: $even"
     refused 2 0 $sheet lay 1 $sheet noise_$y.area
     refused 2 0 $sheet mxf-write 0 $sheet full_$y.anc
     second=
     refused 1 0 PACKING lay 0 $sheet noise_$y.area
   done
-  lists 0.sheet 1 "refused 2 at 0" "${refusals[2]}"
+  lists 0.sheet 1 "refused 2 at 0 0" "${refusals[2]}"
   refused 2 0 0.sheet lay 2 0.sheet noise_$y.area
   refused 2 0 0.sheet mxf-write 0 0.sheet full_$y.anc
 done
@@ -963,21 +966,21 @@ done
 
 # ---- refusals: each number, with its words and the place that is meant
 
-# of_sheet NUMBER PLACE WORD [WHERE]: the sheet NUMBER_WORD is refused by each command that reads sheets, and comes before an output's folder that is
-# not there; where it is laid, after 1, and up to 3 before an area of the wrong length.
+# of_sheet NUMBER PLACE NAME [WHERE [WORD]]: the sheet NUMBER_NAME is refused by each command that reads sheets, and comes before an output's folder
+# that is not there; where it is laid, after 1, and up to 3 before an area of the wrong length.
 of_sheet() {
-  local number=$1 place=$2 sheet=$1_$3.sheet what=$1_$3.sheet${4:+: $4} area=noise_1.area
+  local number=$1 place=$2 sheet=$1_$3.sheet what=$1_$3.sheet${4:+: $4} area=noise_1.area at_word=${5-0}
   [[ $3 != *_2 ]] || area=noise_2.area
   cp "$made/$sheet" .
   keep
-  lists $sheet 1 "refused $number at $place" "${4:+$4: }${refusals[number]}"
+  lists $sheet 1 "refused $number at $place $at_word" "${4:+$4: }${refusals[number]}"
   refused $number $place "$what" lay 1 $sheet $area
   refused $number $place "$what" lay 2 $sheet $area
-  refused 1 0 PACKING lay 3 $sheet $area
+  at_word=0 refused 1 0 PACKING lay 3 $sheet $area
   if [ "$number" -le 3 ]; then
     refused $number $place "$what" lay 1 $sheet cue.sheet
   else
-    refused 4 0 cue.sheet lay 1 $sheet cue.sheet
+    at_word=0 refused 4 0 cue.sheet lay 1 $sheet cue.sheet
   fi
   wrong "nothing.area: $absent" lay 1 $sheet nothing.area
   for output in new.anc noise_1.area nowhere/new.anc; do
@@ -987,8 +990,8 @@ of_sheet() {
 }
 
 fresh "$samples/"{cue.sheet,film.sheet} "$made/noise_1.area" "$made/noise_2.area"
-for word in short long first three; do
-  of_sheet 2 0 $word
+for name in short long first three; do
+  of_sheet 2 0 $name
 done
 for system in 0 4 65535; do
   of_sheet 3 0 system_$system
@@ -1002,24 +1005,23 @@ of_sheet 6 2 line_3 "location 2 (line 751, flags 2)"
 of_sheet 6 1 flags "location 1 (line 561, flags 4)"
 of_sheet 6 2 zero "location 2 (line 0, flags 4)"
 of_sheet 6 0 both "location 0 (line 65535, flags 65535)"
-of_sheet 7 2 few "packet 2 (no line)"
-for number in 7 8 9 10; do
-  of_sheet $number 0 line "packet 0 (line 9)"
-  of_sheet $number 2 none "packet 2 (no line)"
-  of_sheet $number 3 beyond "packet 3"
-  of_sheet $number 0 alone "packet 0"
+of_sheet 7 2 few "packet 2 (no line), word 6 (user word 0) is missing" 6
+for words in "7 1 (flag) is 000h" "8 4 (SDID) is 001h" "9 8 (CS) is missing" "10 8 (CS) is 1D9h"; do
+  read -r number word said <<<"$words"
+  of_sheet $number 0 line "packet 0 (line 9), word $word $said" $word
+  of_sheet $number 0 alone "packet 0, word $word $said" $word
 done
-for word in more fewer nothing; do
-  of_sheet 11 0 $word
+for name in more fewer nothing; do
+  of_sheet 11 0 $name
 done
 
 fresh_jobs
 cp "$made/spill_1_1.sheet" .
 cp "$made/full_1.sheet" late.sheet
-poke late.sheet 65535 '\000'
+poke late.sheet 65534 '\000\000'
 keep
 last=$((most - 1))
-lists late.sheet 1 "refused 10 at $last" "packet $last (line $((1125 - last % 100))): ${refusals[10]}"
+lists late.sheet 1 "refused 10 at $last 16" "packet $last (line $((1125 - last % 100))), word 16 (CS) is 000h: ${refusals[10]}"
 refused 12 0 spill_1_1.sheet lay 1 spill_1_1.sheet frame.area
 for output in new.file frame.area nowhere/new.file; do
   refused 4 0 laid_1.area read 2 laid_1.area $output
@@ -1061,6 +1063,38 @@ for byte in 0 1 15 16; do
   done
 done
 
+# ---- the word at fault: each kind of word, wrong or missing, in a packet with a line, without one, and without a location
+
+# Of each sheet (tests/command_files.py, words_at_fault) its name, the number, the word, and what is said of it.
+at_fault=(
+  "flag_0 7 0 (flag) is 3FFh" "flag_1 7 1 (flag) is 000h" "flag_2 7 2 (flag) is 3FEh" "flag_over 7 0 (flag) is 1000h" "flag_few 7 1 (flag) is 001h"
+  "no_flag_1 7 1 (flag) is missing" "no_flag_2 7 2 (flag) is missing" "no_did 7 3 (DID) is missing" "no_sdid 7 4 (SDID) is missing"
+  "no_dbn 7 4 (DBN) is missing" "no_dbn_of_did_over 7 4 (DBN) is missing" "no_dc 7 5 (DC) is missing" "no_user_0 7 6 (user word 0) is missing"
+  "no_user_of_dc_over 7 6 (user word 0) is missing" "no_cs_of_none 7 6 (CS) is missing" "no_cs_of_dc_over 7 6 (CS) is missing"
+  "no_user_1 9 7 (user word 1) is missing" "no_user_3 9 9 (user word 3) is missing" "no_user_17 9 23 (user word 17) is missing"
+  "no_user_254 9 260 (user word 254) is missing" "no_cs 9 8 (CS) is missing" "no_cs_of_255 9 261 (CS) is missing"
+  "did 8 3 (DID) is 045h" "did_over 8 3 (DID) is FFFFh" "sdid 8 4 (SDID) is 301h" "sdid_of_7f 8 4 (SDID) is 002h" "dbn_of_80 8 4 (DBN) is 3FFh"
+  "dbn_of_ff 8 4 (DBN) is 201h" "dc 8 5 (DC) is 202h" "dc_over 8 5 (DC) is 502h"
+  "user_0 8 6 (user word 0) is 3FFh" "user_1 8 7 (user word 1) is 1000h" "user_17 8 23 (user word 17) is 3FFh"
+  "user_254 8 260 (user word 254) is 000h" "user_over 8 7 (user word 1) is FFFFh"
+  "cs 10 8 (CS) is 2D8h" "cs_of_none 10 6 (CS) is 046h" "cs_of_1 10 7 (CS) is 180h" "cs_of_255 10 261 (CS) is FFFFh"
+)
+fresh "$made/"word_*.sheet "$made/noise_1.area"
+sheets=(word_*.sheet)
+[ ${#sheets[@]} = $((3 * ${#at_fault[@]})) ] || fail "${#sheets[@]} sheets with a word at fault, not 3 for each of ${#at_fault[@]}"
+for words in "${at_fault[@]}"; do
+  read -r name number at_word said <<<"$words"
+  for where in "line packet 1 (line 9)" "none packet 1 (no line)" "beyond packet 1"; do
+    sheet=word_${name}_${where%% *}.sheet
+    refused $number 1 "$sheet: ${where#* }, word $at_word $said" list $sheet
+  done
+  sheet=word_${name}_line.sheet
+  refused $number 1 "$sheet: packet 1 (line 9), word $at_word $said" lay 2 $sheet noise_1.area
+  refused $number 1 "$sheet: packet 1 (line 9), word $at_word $said" mxf-write 0 $sheet new.anc
+  start=lister expect 0 "refused $number at 1 $at_word" "" <$sheet
+done
+at_word=0
+
 # ---- elements of other programs (docs/OUTSIDE-ELEMENTS.md): the byte at which each is refused, then mended
 
 # long_form FILE: the length of the element in four bytes, not in one.
@@ -1094,6 +1128,8 @@ ln -s folder/target link
 cp "$made/10_line.sheet" "$made/14_1.area" "$made/full_1.sheet" .
 mkfifo silent
 keep
+# What is said of 10_line.sheet, before the words of 10.
+wrong_cs="packet 0 (line 9), word 8 (CS) is 1D9h"
 
 # each_output WRITER: the outputs are in `outputs`: a file to replace, one through a link, and a new one.
 each_output() {
@@ -1141,8 +1177,8 @@ for stream in full broken limited readable; do
     wrong "$why"$'\n'"$unchanged" $words
   done
   wrong "$why"$'\n'"$unchanged" list <cue.sheet
-  wrong "10_line.sheet: packet 0 (line 9): ${refusals[10]}"$'\n'"$why"$'\n'"$unchanged" list 10_line.sheet
-  wrong "10_line.sheet: packet 0 (line 9): ${refusals[10]}"$'\n'"$why"$'\n'"$unchanged" lay 1 10_line.sheet frame.area
+  wrong "10_line.sheet: $wrong_cs: ${refusals[10]}"$'\n'"$why"$'\n'"$unchanged" list 10_line.sheet
+  wrong "10_line.sheet: $wrong_cs: ${refusals[10]}"$'\n'"$why"$'\n'"$unchanged" lay 1 10_line.sheet frame.area
   wrong "14_1.area: packet 1: ${refusals[14]}"$'\n'"$why"$'\n'"$unchanged" read 1 14_1.area frame.area
   wrong "SYSTEM: ${refusals[3]}"$'\n'"$why"$'\n'"$unchanged" mxf-read 4 0 film.anc new.file
   # What prints nothing has no use for it. With a limit standard error has one too.
@@ -1182,7 +1218,7 @@ for start in closed_input vanc; do
       works $writer $name $target <folder
     done
   done
-  refused 10 0 "10_line.sheet: packet 0 (line 9)" lay 1 10_line.sheet frame.area <folder
+  at_word=8 refused 10 0 "10_line.sheet: $wrong_cs" lay 1 10_line.sheet frame.area <folder
   expect 0 "$version" "" --version <folder
 done
 wrong "standard input: Is a directory" list <folder
@@ -1211,9 +1247,9 @@ for start in closed_error full_error broken_error closed_input_error; do
   done
   wrong ""
   wrong "" x
-  expect 1 "refused 10 at 0" "" lay 1 10_line.sheet frame.area
+  expect 1 "refused 10 at 0 8" "" lay 1 10_line.sheet frame.area
   expect 1 "refused 14 at 1" "" read 1 14_1.area new.file
-  expect 1 "refused 10 at 0" "" list 10_line.sheet
+  expect 1 "refused 10 at 0 8" "" list 10_line.sheet
   expect 0 "$listing" "" list cue.sheet
   expect 0 "$overview" "" help
   sees untouched
@@ -1513,11 +1549,11 @@ chmod +x "$work/bin/vanc"
 # script WORDS: a script that has `vanc` among its commands.
 script() { PATH=$work/bin:$PATH bash -c "$1"; }
 start=script
-bad="bad.sheet: packet 0 (line 9): ${refusals[10]}"
-expect 1 "refused 10 at 0" "$bad" 'vanc lay 1 bad.sheet frame.area && echo no'
-expect 1 "refused 10 at 0" "$bad" 'set -e; vanc lay 1 bad.sheet frame.area; echo no'
-expect 1 "refused 10 at 0" "$bad" 'set -o pipefail; vanc list bad.sheet | cat'
-expect 0 "refused 10 at 0"$'\n'"1" "$bad" 'vanc lay 1 bad.sheet frame.area || echo $?'
+bad="bad.sheet: $wrong_cs: ${refusals[10]}"
+expect 1 "refused 10 at 0 8" "$bad" 'vanc lay 1 bad.sheet frame.area && echo no'
+expect 1 "refused 10 at 0 8" "$bad" 'set -e; vanc lay 1 bad.sheet frame.area; echo no'
+expect 1 "refused 10 at 0 8" "$bad" 'set -o pipefail; vanc list bad.sheet | cat'
+expect 0 "refused 10 at 0 8"$'\n'"1" "$bad" 'vanc lay 1 bad.sheet frame.area || echo $?'
 expect 0 "2" "nothing.sheet: $absent" 'if vanc lay 1 nothing.sheet frame.area; then echo no; else echo $?; fi'
 expect 0 "2" "usage: ${usage[lay]}" 'vanc lay || echo $?'
 sees untouched

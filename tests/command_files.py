@@ -12,8 +12,11 @@ packing 2, where they have room.
 
 Of the samples: laid_K.area, frame.area with cue.sheet laid; film.anc, film.sheet as an element with FI 0; film_0.sheet, that one read.
 
-Refused, N being the number: N_WORD.sheet, and N_K.area, which is not read. WORD says where the packet at fault stands: the location that it has
-names a line (line), or none (none), or it has no location (beyond). N_late.area is tail_0.area with its last packet damaged."""
+Refused, N being the number: N_NAME.sheet, and N_K.area, which is not read. NAME says for 7 to 10 whether the packet at fault has a location, which
+names a line (line), or stands alone in a sheet without any (alone). N_late.area is tail_0.area with its last packet damaged.
+
+word_NAME_WHERE.sheet: packet 1, the last, has a word that is wrong or missing, as NAME says (see `words_at_fault`); WHERE is line or none, as its
+location has it, or beyond, where it has no location."""
 import os
 import random
 import sys
@@ -100,7 +103,7 @@ def fill(system, packing):
     s = sheet_of(system, packets)
     save(f"fill_{packing}_{system}.sheet", pack(s))
     area = bytearray(noise[system])
-    number, _, packs, string = lay(packing, s, area)
+    number, _, _, packs, string = lay(packing, s, area)
     assert (number, packs) == (0, [{1: 1560, 2: 1872, 3: 1560}, {1: 120, 2: 144, 3: 120}][packing - 1][system])
     save(f"fill_{packing}_{system}.area", area)
     save(f"fill_{packing}_{system}.laid", f"laid packs {packs} bytes {string}\n".encode())
@@ -156,18 +159,18 @@ def of_samples():
         area = bytearray(load("frame.area"))
         assert lay(packing, cue, area)[0] == 0
         save(f"laid_{packing}.area", area)
-    film = [p for p in sheet_tests(load_sheet("film.sheet"))[2] if p[1] & 1 == 0]
+    film = [p for p in sheet_tests(load_sheet("film.sheet"))[3] if p[1] & 1 == 0]
     save("film.anc", element(3, film))
     save("film_0.sheet", pack(sheet_of(3, film)))
 
 
 def refused_sheets():
     cue = load_sheet("cue.sheet")
-    _, _, packets = sheet_tests(cue)
+    _, _, _, packets = sheet_tests(cue)
     locations, each = [(line, flags) for line, flags, _ in packets], [words for _, _, words in packets]
 
-    def refused(number, place, name, s):
-        assert sheet_tests(s)[:2] == (number, place), (name, sheet_tests(s)[:2])
+    def refused(number, place, name, s, at_fault=0):
+        assert sheet_tests(s)[:3] == (number, place, at_fault), (name, sheet_tests(s)[:3])
         save(f"{number}_{name}.sheet", pack(s))
 
     def damaged(number, words):
@@ -195,19 +198,66 @@ def refused_sheets():
     refused(6, 1, "flags", sheet(1, [locations[0], (561, 4), locations[2]], [w for words in each for w in words]))
     refused(6, 2, "zero", sheet(1, locations[:2] + [(0, 4)], [w for words in each for w in words]))
     refused(6, 0, "both", sheet(1, [(65535, 65535), (65535, 4), locations[2]], [w for words in each for w in words]))
-    refused(7, 2, "few", sheet(1, locations, (each[0] + each[1] + each[2])[:-2]))
-    for number in (7, 8, 9, 10):
-        refused(number, 0, "line", sheet(1, locations, damaged(number, each[0]) if number == 9 else damaged(number, each[0]) + each[1] + each[2]))
-        refused(number, 2, "none", sheet(1, locations, each[0] + each[1] + damaged(number, each[2] if number != 9 else each[1])))
-        refused(number, 3, "beyond", sheet(1, locations, each[0] + each[1] + each[2] + damaged(number, each[0])))
-        refused(number, 0, "alone", sheet(1, [], damaged(number, each[0])))
+    refused(7, 2, "few", sheet(1, locations, (each[0] + each[1] + each[2])[:-2]), 6)
+    for number, at_fault in ((7, 1), (8, 4), (9, 8), (10, 8)):
+        behind = [] if number == 9 else each[1] + each[2]
+        refused(number, 0, "line", sheet(1, locations, damaged(number, each[0]) + behind), at_fault)
+        refused(number, 0, "alone", sheet(1, [], damaged(number, each[0])), at_fault)
     refused(11, 0, "more", sheet(1, locations, each[0] + each[1]))
     refused(11, 0, "fewer", sheet(1, locations[:2], each[0] + each[1] + each[2]))
     refused(11, 0, "nothing", sheet(1, locations[:1], []))
 
 
+def with_word(words, at, other):
+    return [*words[:at], other, *words[at + 1 :]]
+
+
+def words_at_fault():
+    """Each kind of word in a packet, wrong and missing: the name, the number, the word, and the packet's words."""
+    two, none, dbn = packet(0x45, 0x01, [0x10, 0x80]), packet(0x45, 0x01, []), packet(0x80, 0x05, [1, 2, 3])
+    twenty, longest = packet(0x7F, 0x02, range(20)), packet(0xFF, 0x01, range(255))
+    for at, other in ((0, 0x3FF), (1, 0x000), (2, 0x3FE)):
+        yield f"flag_{at}", 7, at, with_word(two, at, other)
+    yield "flag_over", 7, 0, with_word(two, 0, 0x1000)
+    yield "flag_few", 7, 1, [0x000, 0x001]
+    for left, name in ((1, "flag_1"), (2, "flag_2"), (3, "did"), (4, "sdid"), (5, "dc"), (6, "user_0")):
+        yield f"no_{name}", 7, left, two[:left]
+    yield "no_dbn", 7, 4, dbn[:4]
+    yield "no_cs_of_none", 7, 6, none[:6]
+    # 7 comes before parity is looked at: the low bytes of DID and DC give the names.
+    yield "no_dbn_of_did_over", 7, 4, [*two[:3], 0x4C0]
+    yield "no_cs_of_dc_over", 7, 6, [*two[:5], 0xFF00]
+    yield "no_user_of_dc_over", 7, 6, [*two[:5], 0x001]
+    for words, left, name in ((two, 7, "user_1"), (two, 8, "cs"), (twenty, 23, "user_17"), (longest, 260, "user_254"), (longest, 261, "cs_of_255")):
+        yield f"no_{name}", 9, left, words[:left]
+    yield "no_user_3", 9, 9, with_word(two, 5, packet(0, 0, [0] * 255)[5])  # DC 255, and the words of DC 2
+    yield "did", 8, 3, with_word(two, 3, 0x045)
+    yield "did_over", 8, 3, with_word(dbn, 3, 0xFFFF)
+    yield "sdid", 8, 4, with_word(two, 4, 0x301)
+    yield "sdid_of_7f", 8, 4, with_word(twenty, 4, 0x002)
+    yield "dbn_of_80", 8, 4, with_word(dbn, 4, 0x3FF)
+    yield "dbn_of_ff", 8, 4, with_word(longest, 4, 0x201)
+    yield "dc", 8, 5, with_word(two, 5, 0x202)
+    yield "dc_over", 8, 5, with_word(two, 5, 0x502)
+    for words, i, other in ((two, 0, 0x3FF), (two, 1, 0x1000), (twenty, 17, 0x3FF), (longest, 254, 0x000)):
+        yield f"user_{i}", 8, 6 + i, with_word(words, 6 + i, other)
+    yield "user_over", 8, 7, with_word(with_word(two, 7, 0xFFFF), 8, 0)
+    for words, at, other, name in ((none, 6, 0x046, "cs_of_none"), (two, 8, 0x2D8, "cs"), (longest, 261, 0xFFFF, "cs_of_255")):
+        yield name, 10, at, with_word(words, at, other)
+    yield "cs_of_1", 10, 7, with_word(two, 5, 0x101)  # DC 1, and the words of DC 2: the last user word stands where CS is looked for
+
+
+def sheets_with_words():
+    before = packet(0x61, 0x01, [5])
+    for name, number, at_fault, words in words_at_fault():
+        for where, locations in (("line", [(561, 1), (9, 0)]), ("none", [(561, 1), (0, 2)]), ("beyond", [(561, 1)])):
+            s = sheet(1, locations, before + words)
+            assert sheet_tests(s)[:3] == (number, 1, at_fault), (name, sheet_tests(s)[:3])
+            save(f"word_{name}_{where}.sheet", pack(s))
+
+
 def refused_areas():
-    _, _, packets = sheet_tests(load_sheet("cue.sheet"))
+    _, _, _, packets = sheet_tests(load_sheet("cue.sheet"))
 
     def refused(number, place, packing, user):
         area = bytearray(noise[1])
@@ -243,4 +293,5 @@ for system, dc in ((1, 1), (1, 2), (2, 2), (2, 3), (3, 1), (3, 2)):
 tails()
 of_samples()
 refused_sheets()
+sheets_with_words()
 refused_areas()

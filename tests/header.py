@@ -15,6 +15,9 @@ import sys
 
 C_NUMBERS = {"uint8_t": "u8", "uint16_t": "u16", "uint32_t": "u32", "uint64_t": "u64", "size_t": "usize", "bool": "bool"}
 
+# The refusals that name a word of the packet.
+WITH_WORD = [7, 8, 9, 10]
+
 
 def without_comments(text):
     return re.sub(r"/\*.*?\*/|//[^\n]*", " ", text, flags=re.S)
@@ -119,15 +122,16 @@ def alone(ours, theirs):
 
 
 def number_differences(header, words):
-    """The names, the table in the header's first comment, and the words."""
+    """The names, the tables in the header's first comment (of all numbers, and of those that name a word of a packet), and the words."""
     text = without_comments(header)
     numbers = [number for _, number in header_names(text)]
     said = []
     if not numbers or numbers != list(range(len(numbers))):
         said.append(f"names: their numbers are {numbers}")
-    table = [int(number) for number in re.findall(r"^ \* {3,4}(\d+)  \S", header, flags=re.M)]
-    if table != numbers[1:]:
-        said.append(f"numbers: the table in the header has {table}, the names {numbers}")
+    rows = [[int(number) for number in re.findall(r"^ \* {3,4}(\d+)  \S", part, flags=re.M)] for part in header.split("\n *\n")]
+    tables = [numbers_there for numbers_there in rows if numbers_there]
+    if tables != [numbers[1:], WITH_WORD]:
+        said.append(f"numbers: the tables in the header have {tables}, the names {numbers}, and {WITH_WORD} have a word")
     have, want = header_words(text), [(0, "done")] + words
     if have != want:
         said.append(f"words of the header and of the command's table: {alone(have, want)}")
@@ -163,6 +167,12 @@ def differences(header, symbols, toolchain, words, rattle):
 
 WRONG = [
     ("uint64_t packs;", "uint32_t packs;"),
+    ("uint64_t place;\n    uint64_t word;  /*", "uint64_t word;\n    uint64_t place;  /*"),
+    ("uint64_t place;\n    uint64_t word;    /*", "uint64_t word;\n    uint64_t place;    /*"),
+    ("uint64_t word;   /*", "uint64_t place;   /*"),
+    ("uint64_t kind;", "bool kind;"),
+    ("vanc_test_packet(const uint16_t *words", "vanc_test_packet(uint16_t *words"),
+    (" *   10  CS", " *   11  CS"),
     ("uint64_t place;\n    uint64_t length;", "uint64_t length;\n    uint64_t place;"),
     ("const uint8_t *string, size_t string_len, uint64_t place", "const uint8_t *string, uint64_t place, size_t string_len"),
     ("const uint16_t *sheet, size_t sheet_len, uint64_t packing", "const uint8_t *sheet, size_t sheet_len, uint64_t packing"),

@@ -1,6 +1,6 @@
 #!/usr/bin/env bash
-# The library as others link it: the archive, the header against it and alone, the words of its refusals, the packet limit in every call, the examples
-# in C and Rust built and run.
+# The library as others link it: the archive, the header against it and alone, the words of its refusals, the packet limit in every call, the word
+# of a packet that is at fault, the examples in C and Rust built and run.
 set -euo pipefail
 cd "$(dirname "$0")/.."
 . tests/machine.sh
@@ -100,6 +100,11 @@ echo "vanc_refusal_text: the words of every number"
 cc_for -std=c99 "${strict[@]}" -O2 -I include tests/limit.c "$archive" -o "$work/limit"
 run "$work/limit" || fail "the packet limit is not kept"
 
+# ---- the word at fault
+
+cc_for -std=c99 "${strict[@]}" -O2 -I include tests/words.c "$archive" -o "$work/at_fault"
+run "$work/at_fault" crates/packet_cases/data/words291.txt || fail "another word is told than the one at fault"
+
 # ---- the examples
 
 # as_written EXAMPLE EXPECTED: the lines in the example's first comment build it, as they stand, in a folder that has the checkout's folders in it, so
@@ -122,8 +127,10 @@ laid packs 1 bytes 16
 read packing 2 packets 2 numbers 24'
 walked='packet at 0 of 9 bytes
 packet at 9 of 7 bytes'
+tested='a packet of type 2
+refused 8, word 7: a word from DID to the last user word is not its byte with parity'
 last='the same sheet came back, in both packings'
-frame_c=$both$'\n'$walked$'\n'$last
+frame_c=$both$'\n'$walked$'\n'$tested$'\n'$last
 frame_rs=$both$'\n'$last
 element_c='written packets 1 bytes 39
 written packets 1 bytes 41

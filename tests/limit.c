@@ -1,7 +1,7 @@
 /*
  * The packet limit, one answer after the other, in rooms of the header's sizes: every number of the smallest packets up to some more than the
- * limit, in every system and call; every packet of a list at fault, since a place may take more than ten bits; the bytes behind as many packets as
- * the limit. Prints how many answers there were, and the first that are wrong.
+ * limit, in every system and call; every packet of a list at fault, since a place may take more than ten bits, with the word; the bytes behind as
+ * many packets as the limit. Prints how many answers there were, and the first that are wrong.
  */
 #include <stdio.h>
 #include <string.h>
@@ -79,7 +79,7 @@ static void try_count(unsigned system, size_t packets)
         size_t room = packing == 1 ? (system == 2 ? 936 : 780) : (system == 2 ? LIMIT : 1062);
         uint64_t number = packets > LIMIT ? VANC_REFUSED_LIMIT : packets > room ? VANC_REFUSED_ROOM : VANC_DONE;
         vanc_laid laid = vanc_lay(sheet, n, packing, area, area_length);
-        expect(laid.number == number && laid.place == 0, "lay", packets, laid.number, laid.place);
+        expect(laid.number == number && laid.place == 0 && laid.word == 0, "lay", packets, laid.number, laid.place);
         if (number == VANC_DONE) {
             vanc_read_back read = vanc_read(system, area, area_length, back, VANC_SHEET_MAX);
             expect(is_sheet(read.number, read.numbers, n), "read", packets, read.number, read.place);
@@ -87,7 +87,8 @@ static void try_count(unsigned system, size_t packets)
     }
     bool few = packets <= LIMIT;
     vanc_element_written written = vanc_mxf_write(sheet, n, false, element, VANC_ELEMENT_MAX);
-    expect(written.number == (few ? VANC_DONE : VANC_REFUSED_LIMIT) && written.place == 0, "mxf write", packets, written.number, written.place);
+    expect(written.number == (few ? VANC_DONE : VANC_REFUSED_LIMIT) && written.place == 0 && written.word == 0, "mxf write", packets, written.number,
+           written.place);
     size_t bytes = make_element(system, packets);
     expect(written.bytes == (few ? bytes : 0), "mxf write, bytes", packets, written.number, written.place);
     vanc_element_read read = vanc_mxf_read(system, false, element, bytes, back, VANC_ELEMENT_SHEET_MAX);
@@ -95,17 +96,17 @@ static void try_count(unsigned system, size_t packets)
            read.place);
 }
 
-/* One number of a sheet changed: both calls on it refuse packet or location k. An area takes packets without a line. */
-static void try_number(size_t n, size_t at, uint16_t changed, uint64_t number, size_t k)
+/* One number of a sheet changed: both calls on it refuse packet or location k, and tell the word. An area takes packets without a line. */
+static void try_number(size_t n, size_t at, uint16_t changed, uint64_t number, size_t k, uint64_t word)
 {
     uint16_t was = sheet[at];
     sheet[at] = changed;
     if (number != VANC_REFUSED_NO_LINE) {
         vanc_laid laid = vanc_lay(sheet, n, 2, area, sizeof area);
-        expect(laid.number == number && laid.place == k, "lay, packet", k, laid.number, laid.place);
+        expect(laid.number == number && laid.place == k && laid.word == word, "lay, packet", k, laid.number, laid.place);
     }
     vanc_element_written written = vanc_mxf_write(sheet, n, false, element, VANC_ELEMENT_MAX);
-    expect(written.number == number && written.place == k, "mxf write, packet", k, written.number, written.place);
+    expect(written.number == number && written.place == k && written.word == word, "mxf write, packet", k, written.number, written.place);
     sheet[at] = was;
 }
 
@@ -124,12 +125,12 @@ static void try_packets_at_fault(void)
     size_t n = make_sheet(2, LIMIT, LIMIT, 0);
     for (size_t k = 0; k < LIMIT; k++) {
         size_t location = 3 + 2 * k, packet = 4 + 2 * LIMIT + 7 * k;
-        try_number(n, location, 1126, VANC_REFUSED_LOCATION, k);
-        try_number(n, location + 1, 4, VANC_REFUSED_LOCATION, k);
-        try_number(n, packet + 2, 0, VANC_REFUSED_START, k);
-        try_number(n, packet + 4, 0, VANC_REFUSED_WORD, k);
-        try_number(n, packet + 6, 0, VANC_REFUSED_CHECKSUM, k);
-        try_number(n, location, 0, VANC_REFUSED_NO_LINE, k);
+        try_number(n, location, 1126, VANC_REFUSED_LOCATION, k, 0);
+        try_number(n, location + 1, 4, VANC_REFUSED_LOCATION, k, 0);
+        try_number(n, packet + 2, 0, VANC_REFUSED_START, k, 2);
+        try_number(n, packet + 4, 0, VANC_REFUSED_WORD, k, 4);
+        try_number(n, packet + 6, 0, VANC_REFUSED_CHECKSUM, k, 6);
+        try_number(n, location, 0, VANC_REFUSED_NO_LINE, k, 0);
     }
     vanc_lay(sheet, n, 2, area, sizeof area);
     for (size_t k = 0; k < LIMIT; k++) {
@@ -142,7 +143,7 @@ static void try_packets_at_fault(void)
     /* All packets are tested before they are counted: there may be far more than locations. */
     n = make_sheet(2, LIMIT, MANY, 0);
     for (size_t k = 0; k < MANY; k += 61)
-        try_number(n, 4 + 2 * LIMIT + 7 * k + 6, 0, VANC_REFUSED_CHECKSUM, k);
+        try_number(n, 4 + 2 * LIMIT + 7 * k + 6, 0, VANC_REFUSED_CHECKSUM, k, 6);
 }
 
 /* As many packets as the limit, and behind them three bytes but for the user bytes: all fill, or it is 5. */

@@ -4,13 +4,18 @@
 A case is its length in four bytes, high byte first, and its bytes."""
 import pathlib
 import random
+import re
 import struct
 
 from reference import LAST, LIMIT, listing, pack, packet, sheet
 
 HOME = pathlib.Path(__file__).resolve().parent.parent / "crates" / "lister_cases"
+NUMBERS = (2, 3, 5, 6, 7, 8, 9, 10, 11)
 P = packet(0x45, 0x01, [0x10, 0x80])
 E = packet(0x45, 0x01, [])
+# User words enough that the first, the last and those between are told apart, and the most that there can be.
+TWENTY = packet(0x61, 0x01, range(20))
+LONGEST = packet(0x80, 0xFF, range(255))
 
 
 def flipped(words, at, bit):
@@ -87,6 +92,53 @@ def worked():
     yield pack(sheet(3, [(9, 0)] * LIMIT, P))
 
 
+def wrong_words():
+    """Whole packets with wrong words, alone and several together: the first in the order of the tests is named."""
+    for at in (0, 1, 2, 3, 4, 5):
+        for bit in (0, 8, 9, 10, 15):
+            yield flipped(P, at, bit)
+        yield flipped(flipped(P, at, 1), 6, 1)
+        yield flipped(flipped(P, at, 2), 8, 2)
+    for first, second in ((0, 1), (0, 2), (1, 2), (2, 3), (1, 8), (3, 4), (3, 5), (4, 5)):
+        yield flipped(flipped(P, first, 3), second, 4)
+    for words, places in ((packet(0x45, 0x01, [0xB8]), (6,)), (P, (6, 7)), (TWENTY, (6, 7, 15, 24, 25)), (LONGEST, (6, 133, 260))):
+        for at in places:
+            yield flipped(words, at, 8)
+            yield flipped(flipped(words, at, 0), len(words) - 2, 11)
+            yield flipped(flipped(words, at, 7), len(words) - 1, 0)
+    for words in (E, P, TWENTY, LONGEST):
+        for bit in (0, 8, 9, 10):
+            yield flipped(words, len(words) - 1, bit)
+    # CS as 001's clause 5 makes its upper bits, and the sum of bytes: its low nine bits are not the sum's.
+    yield [*P[:8], 0x2D8]
+    yield [*TWENTY[:-1], sum(w & 0xFF for w in TWENTY[3:-1]) & 0x1FF | 0x200]
+
+
+def cut_packets():
+    """Packets that end early: with wrong words in what is left, and without. A wrong user word is not looked at before the packet is whole."""
+    for left in range(1, 7):
+        yield P[:left]
+        for at in range(left):
+            yield flipped(P[:left], at, 9)
+        if left > 2:
+            yield flipped(flipped(P[:left], 1, 0), 2, 0)
+    for words, lengths in ((P, (7, 8)), (TWENTY, range(7, 27)), (LONGEST, (7, 8, 128, 260, 261))):
+        for left in lengths:
+            yield words[:left]
+        for at in (2, 3, 4, 5, 6):
+            yield flipped(words[:8], at, 8)
+
+
+def words_at_fault():
+    """Request A2: every way to a word, in packet 0 and behind others; a whole packet before another too, whose words are not its own."""
+    for words in wrong_words():
+        yield pack(sheet(1, [(9, 0)], words))
+        yield pack(sheet(2, [(9, 0), (0, 1), (561, 2), (9, 3)], P + E + words + P))
+    for words in cut_packets():
+        yield pack(sheet(3, [(9, 0)], words))
+        yield pack(sheet(1, [(9, 0), (0, 1), (561, 2)], E + P + words))
+
+
 def random_sheet(r):
     system = r.choice([1, 2, 3])
     count = r.choice([0, 1, 2, 3, 5, 9, 30])
@@ -121,20 +173,30 @@ def damaged(r):
     return s
 
 
+def assert_all_met(texts):
+    """Each number, and each word by which a packet is refused: in packet 0 and in a later one. Other numbers have word 0."""
+    refusals = [tuple(map(int, re.findall(r"\d+", t))) for t in texts if t.startswith("refused ")]
+    for number in NUMBERS:
+        assert sum(n == number for n, _, _ in refusals) >= 3, number
+    shapes = [(7, w) for w in range(7)] + [(8, w) for w in (3, 4, 5, 6, 7, 15, 24, 25, 133, 260)]
+    shapes += [(9, w) for w in (*range(7, 27), 128, 260, 261)] + [(10, w) for w in (6, 8, 26, 261)]
+    for shape in shapes:
+        assert {place > 0 for number, place, w in refusals if (number, w) == shape} == {False, True}, shape
+    assert all(w == 0 for number, _, w in refusals if number not in (7, 8, 9, 10))
+
+
 def main():
     r = random.Random(291)
-    cases = list(worked())
+    cases = list(worked()) + list(words_at_fault())
     cases += [pack(random_sheet(r)) for _ in range(100)]
-    cases += [pack(damaged(r)) for _ in range(600)]
+    cases += [pack(damaged(r)) for _ in range(500)]
     texts = [listing(c) for c in cases]
-    for number in (2, 3, 5, 6, 7, 8, 9, 10, 11):
-        met = sum(t.startswith(f"refused {number} ") for t in texts)
-        assert met >= 3, (number, met)
+    assert_all_met(texts)
     (HOME / "data").mkdir(parents=True, exist_ok=True)
     (HOME / "data" / "cases").write_bytes(b"".join(struct.pack(">I", len(c)) + c for c in cases))
     (HOME / "stdout").write_text("".join(texts))
     print(len(cases), "cases,", sum(len(c) for c in cases), "bytes")
-    for number in (2, 3, 5, 6, 7, 8, 9, 10, 11):
+    for number in NUMBERS:
         print("refused", number, sum(t.startswith(f"refused {number} ") for t in texts))
 
 

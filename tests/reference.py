@@ -1,10 +1,11 @@
-"""A second implementation of document 01's rules, written from the document and not from the Rattle code: the tests' cases are made with it, and it says
-what has to come out."""
+"""A second implementation of document 01's rules and of the requests A2 and A6, written from the documents and not from the Rattle code: the tests'
+cases are made with it, and it says what has to come out."""
 import struct
 
 LAST = {1: 1125, 2: 1125, 3: 750}
 # Request A6; document 01 had 512 wherever the packet limit stands.
 LIMIT = 1275
+FLAG = [0, 0x3FF, 0x3FF]
 
 
 def word(byte):
@@ -19,7 +20,7 @@ def check(words):
 
 def packet(did, sdid, user):
     body = [word(b) for b in [did, sdid, len(user), *user]]
-    return [0, 0x3FF, 0x3FF, *body, check(body)]
+    return [*FLAG, *body, check(body)]
 
 
 def sheet(system, locations, words, count=None, total=None):
@@ -27,46 +28,56 @@ def sheet(system, locations, words, count=None, total=None):
     return [1, system, len(locations) if count is None else count, *flat, len(words) if total is None else total, *words]
 
 
+def first_wrong(words, places):
+    """The first of these places whose word is not its byte with parity; nothing where all are."""
+    return next((i for i in places if words[i] != word(words[i] & 0xFF)), None)
+
+
 def first_fault(words):
-    """7 to 10 of the packet in front, 0 for none."""
-    if len(words) < 7 or words[:3] != [0, 0x3FF, 0x3FF]:
-        return 7
-    if any(w != word(w & 0xFF) for w in words[3:6]):
-        return 8
-    dc = words[5] & 0xFF
-    if len(words) < dc + 7:
-        return 9
-    if any(w != word(w & 0xFF) for w in words[6 : 6 + dc]):
-        return 8
-    return 0 if words[6 + dc] == check(words[3 : 6 + dc]) else 10
+    """7 to 10 of the packet in front and its first word at fault (request A2), which counts from 0 with the flag's; 0 and 0 for none."""
+    for i, (found, right) in enumerate(zip(words, FLAG)):
+        if found != right:
+            return 7, i
+    if len(words) < 7:
+        return 7, len(words)
+    wrong = first_wrong(words, range(3, 6))
+    if wrong is not None:
+        return 8, wrong
+    cs = 6 + (words[5] & 0xFF)
+    if len(words) <= cs:
+        return 9, len(words)
+    wrong = first_wrong(words, range(6, cs))
+    if wrong is not None:
+        return 8, wrong
+    return (0, 0) if words[cs] == check(words[3:cs]) else (10, cs)
 
 
 def sheet_tests(s):
-    """The tests 2, 3, 5 to 11: (number, place, packets), where a packet is (line, flags, words)."""
+    """The tests 2, 3, 5 to 11: (number, place, word, packets), where a packet is (line, flags, words)."""
     if len(s) < 4 or s[0] != 1:
-        return 2, 0, None
+        return 2, 0, 0, None
     count = s[2]
     if len(s) < 4 + 2 * count or len(s) != 4 + 2 * count + s[3 + 2 * count]:
-        return 2, 0, None
+        return 2, 0, 0, None
     if s[1] not in LAST:
-        return 3, 0, None
+        return 3, 0, 0, None
     if count > LIMIT:
-        return 5, 0, None
+        return 5, 0, 0, None
     locations = [(s[3 + 2 * k], s[4 + 2 * k]) for k in range(count)]
     for k, (line, flags) in enumerate(locations):
         if line > LAST[s[1]] or flags > 3:
-            return 6, k, None
+            return 6, k, 0, None
     words, found, at = s[4 + 2 * count :], [], 0
     while at < len(words):
-        fault = first_fault(words[at:])
+        fault, at_fault = first_fault(words[at:])
         if fault:
-            return fault, len(found), None
+            return fault, len(found), at_fault, None
         size = (words[at + 5] & 0xFF) + 7
         found.append(words[at : at + size])
         at += size
     if len(found) != count:
-        return 11, 0, None
-    return 0, 0, [(line, flags, w) for (line, flags), w in zip(locations, found)]
+        return 11, 0, 0, None
+    return 0, 0, 0, [(line, flags, w) for (line, flags), w in zip(locations, found)]
 
 
 def packs_of(w):
@@ -76,11 +87,11 @@ def packs_of(w):
 def listing(data):
     """What the lister prints of a file."""
     if len(data) > 65536 or len(data) % 2:
-        return "refused 2 at 0\n"
+        return "refused 2 at 0 0\n"
     s = list(struct.unpack(f">{len(data) // 2}H", data))
-    number, place, packets = sheet_tests(s)
+    number, place, at_fault, packets = sheet_tests(s)
     if number:
-        return f"refused {number} at {place}\n"
+        return f"refused {number} at {place} {at_fault}\n"
     string_bytes, packs = sum(len(w) for _, _, w in packets), sum(packs_of(w) for _, _, w in packets)
     text = f"system {s[1]} packets {len(packets)} bytes {string_bytes} packs {packs}\n"
     for k, (line, flags, w) in enumerate(packets):
@@ -164,21 +175,21 @@ def spread(system, user, area):
 
 
 def lay(packing, s, area):
-    """(number, place, packs, bytes); the area is changed on success alone."""
+    """(number, place, word, packs, bytes); the area is changed on success alone."""
     if packing not in (1, 2):
-        return 1, 0, 0, 0
-    number, place, packets = sheet_tests(s)
+        return 1, 0, 0, 0, 0
+    number, place, at_fault, packets = sheet_tests(s)
     if number in (2, 3):
-        return number, place, 0, 0
+        return number, place, at_fault, 0, 0
     if len(area) != area_size(s[1]):
-        return 4, 0, 0, 0
+        return 4, 0, 0, 0, 0
     if number:
-        return number, place, 0, 0
+        return number, place, at_fault, 0, 0
     fitting = user_bytes(packing, s[1], packets)
     if fitting is None:
-        return 12, 0, 0, 0
+        return 12, 0, 0, 0, 0
     spread(s[1], fitting[0], area)
-    return 0, 0, fitting[1], sum(len(w) for _, _, w in packets)
+    return 0, 0, 0, fitting[1], sum(len(w) for _, _, w in packets)
 
 
 # ---- reading
@@ -198,7 +209,7 @@ def judged(system, k, d):
         line = 0
     elif line == 0 or line > LAST[system]:
         raise Refused(16, k)
-    return line, d[1] >> 7 | (d[1] >> 4 & 1) << 1, [0, 0x3FF, 0x3FF, *words, check(words)]
+    return line, d[1] >> 7 | (d[1] >> 4 & 1) << 1, [*FLAG, *words, check(words)]
 
 
 def read_5(system, user):

@@ -53,17 +53,22 @@ else
   # The packet limit one too low, and the place of a late packet in ten bits.
   differs rules.rs 'MOST_PACKETS: usize = 1_275' 'MOST_PACKETS: usize = 1_274'
   differs rules.rs '(number, k as u64))' '(number, k as u64 % 1_024))' 3000
+  # The word at fault: counted from DID or from the first user word; for 9 where CS would stand; for 7 the missing word before a wrong one.
+  differs packet.rs 'fault(8, first + k)' 'fault(8, k)'
+  differs packet.rs 'fault(9, words.len())' 'fault(9, dc + 6)'
+  differs packet.rs 'wrong_flag.unwrap_or(words.len())' 'wrong_flag.filter(|_| words.len() > 6).unwrap_or(words.len())'
   echo "second: a changed rule is found"
   # Each buffer ends at a page that cannot be touched.
   "$work/second" 376 "$fenced" "${answer[@]}" fence >"$work/log" || { cat "$work/log"; exit 1; }
   echo "second: $(tail -n 1 "$work/log"), and no byte read behind a buffer"
   "$work/second" "${1-375}" "${2-$cases}" "${answer[@]}"
-  # The baselines that the library's cost is compared with have to do the same work. They have no elements: those calls are the library's.
+  # The baselines that the library's cost is compared with have to do the same work. They have neither elements nor the test of a packet alone:
+  # those calls are the library's.
   for baseline in plain tuned; do
     cc_for -std=c11 -O3 -I include -I bench -Dvanc_lay=baseline_lay -Dvanc_read=baseline_read -c tests/second/answer.c -o "$work/answer.o"
     cc_for -std=c11 -O3 -I include -I bench -c "bench/$baseline.c" -o "$work/baseline.o"
     cc_for "$work/answer.o" "$work/baseline.o" "$archive" -o "$work/answer"
-    "$work/second" 377 13400 "${answer[@]}" >"$work/log" || { cat "$work/log"; exit 1; }
+    "$work/second" 377 15000 "${answer[@]}" >"$work/log" || { cat "$work/log"; exit 1; }
     echo "second: bench/$baseline.c: $(tail -n 1 "$work/log")"
   done
 fi

@@ -38,13 +38,13 @@ def run(case):
     packing, s, size, fill, damages, system, room = case
     area = filled(size, fill)
     laid = lay(packing, s, area)
-    text = "laid %d %d %d %d %d" % (*laid, mixed(area))
+    text = "laid %d %d %d %d %d %d" % (*laid, mixed(area))
     for at, flip in damages:
         if at < len(area):
             area[at] ^= flip
     buffer = list(noise(room, 256))
     back = read(system, area, buffer)
-    return text + " read %d %d %d %d %d %d\n" % (*back, mixed(buffer)), laid[0], back[0]
+    return text + " read %d %d %d %d %d %d\n" % (*back, mixed(buffer)), laid, back
 
 
 def packed(case):
@@ -97,10 +97,8 @@ def worked():
     yield 1, sheet(1, [(9, 0)] * (LIMIT + 1), []), 9599, 7, [], 1, 100
     yield 1, of([2], line=2000), 11520, 7, [], 2, 100
     yield 1, of([2], system=2), 9600, 7, [], 2, 100
-    # 9 and 11, and the area is as it was
+    # 11, and the area is as it was
     for packing in (1, 2):
-        yield packing, sheet(1, [(9, 0)], P[:8]), 9600, 7000, [], 1, 100
-        yield packing, sheet(1, [(9, 0), (9, 0)], P + P[:8]), 9600, 7000, [], 1, 100
         yield packing, sheet(1, [], P), 9600, 7000, [], 1, 100
         yield packing, sheet(2, [(9, 0), (9, 0)], P), 11520, 7000, [], 2, 100
     # areas of one byte
@@ -141,9 +139,22 @@ def worked():
             yield made(packing, 1, [(9, 0, packet(0x45, 0x01, []))] * count)
     user, _ = user_bytes(2, 1, [(9, 0, packet(0x45, 0x01, []))] * 513)
     yield made_of(1, user[:-40] + [0x80] * 3 + user[-37:])
+    yield from words_at_fault()
     yield from at_the_limit()
     yield from behind_the_last()
     yield from late()
+
+
+def words_at_fault():
+    """7 to 10 with the word that request A2 names, in the first packet and in a later one; the area is as it was."""
+    twenty = packet(0x61, 0x01, range(20))
+    wrong = [[*P[:at], P[at] ^ 0x100, *P[at + 1 :]] for at in range(len(P))]
+    wrong += [[*twenty[:at], twenty[at] ^ 0x8000, *twenty[at + 1 :]] for at in (6, 15, 25, 26)]
+    cut = [P[:left] for left in (1, 3, 6, 7, 8)] + [twenty[:left] for left in (7, 20, 26)]
+    for packing in (1, 2):
+        for words in wrong + cut:
+            yield packing, sheet(1, [(9, 0)], words), 9600, 7000, [], 1, 100
+            yield packing, sheet(2, [(9, 0)] * 4, P + twenty + P + words), 11520, 7000, [], 2, 100
 
 
 def at_the_limit():
@@ -229,7 +240,7 @@ def random_sheet(r, system, most):
 
 def free_bits(r, packing, s):
     """Flips of bits that a reader disregards: reserved bits, and line bits where there is no line."""
-    system, (_, _, packets) = s[1], sheet_tests(s)
+    system, (_, _, _, packets) = s[1], sheet_tests(s)
     places = [start + i for start, size in runs(system) for i in range(size)]
     if packing == 1:
         at = 0
@@ -292,14 +303,14 @@ def random_cases(r):
 def figure_8():
     """001, figure 8: a string of 300 bytes lies in VA 0,0, VA 0,1, VA 0,2, VA 0,3 and VA 1,0, END 0 in the last, and the next block is fill."""
     area, s = filled(9600, 1000), of([255, 31])
-    assert lay(2, s, area) == (0, 0, 5, 300)
+    assert lay(2, s, area) == (0, 0, 0, 5, 300)
     string, at = [], 0
     for block, channel in ((0, 0), (0, 1), (0, 2), (0, 3), (1, 0)):
         start = 80 * (3 * 10 * channel + block)
         pack = area[start + 3 : start + 78]
         assert pack[:3] == bytes([0xE3, 0xFE if (block, channel) == (1, 0) else 0xFF, 0xFF]), (block, channel)
         string += pack[3:]
-    assert bytes(string[:300]) == bytes(b for p in sheet_tests(s)[2] for b in danc(*p)) and set(string[300:]) == {0xFF}
+    assert bytes(string[:300]) == bytes(b for p in sheet_tests(s)[3] for b in danc(*p)) and set(string[300:]) == {0xFF}
     assert set(area[80 * (30 + 1) + 3 : 80 * (30 + 1) + 78]) == {0xFF}
 
 
@@ -307,13 +318,16 @@ def main():
     figure_8()
     r = random.Random(375)
     cases = list(worked()) + list(random_cases(r))
-    text, laid, back = "", {}, {}
+    text, laid, back, words = "", {}, {}, set()
     for case in cases:
         assert len(case[1]) <= 16384 and case[2] <= 12000 and case[6] <= 12000, case[2:]
         line, a, b = run(case)
         text += line
-        laid[a] = laid.get(a, 0) + 1
-        back[b] = back.get(b, 0) + 1
+        laid[a[0]] = laid.get(a[0], 0) + 1
+        back[b[0]] = back.get(b[0], 0) + 1
+        words.add((a[0], a[2], a[1] > 0))
+    for number, at_fault in ((7, (0, 1, 2, 3, 6)), (8, (3, 4, 5, 6, 15, 25)), (9, (7, 8, 20, 26)), (10, (8, 26))):
+        assert {(number, word, later) for word in at_fault for later in (False, True)} <= words, number
     data = b"".join(packed(c) for c in cases)
     (HOME / "data").mkdir(parents=True, exist_ok=True)
     (HOME / "data" / "cases").write_bytes(data)

@@ -1,9 +1,9 @@
 /*
  * Answers requests on standard input with calls of libvanc, on standard output, until the input ends.
  *
- * Request: five numbers (64 bits, low byte first): call (0 lay, 1 read, 2 walk, 3 mxf write, 4 mxf read), packing or system, place or FI,
- * length of what the call reads, length of what it may write, both in bytes; then those bytes. A sheet's numbers have their low byte
- * first.
+ * Request: five numbers (64 bits, low byte first): call (0 lay, 1 read, 2 walk, 3 mxf write, 4 mxf read, 5 test packet), packing or system,
+ * place or FI, length of what the call reads, length of what it may write, both in bytes; then those bytes. A sheet's numbers and a packet's
+ * words have their low byte first.
  * Answer: five numbers, the result's fields in the header's order and then 0; a sixth, 0 or the bits of what was changed that may not be
  * (see CHANGED_); then all bytes of what the call may write.
  *
@@ -20,7 +20,7 @@
 
 #include "vanc.h"
 
-enum { LAY, READ, WALK, MXF_WRITE, MXF_READ };
+enum { LAY, READ, WALK, MXF_WRITE, MXF_READ, TEST_PACKET };
 enum { GUARDED, EXACT, FENCED };
 /* Guards of what a call reads; for what it writes two bits higher, 4 and 8. */
 enum { CHANGED_BEFORE = 1, CHANGED_BEHIND = 2, CHANGED_READ_ONLY = 16 };
@@ -97,7 +97,7 @@ static void call(const uint64_t request[5], lent from, lent to, uint64_t answer[
 {
     if (request[0] == LAY) {
         vanc_laid r = vanc_lay((const uint16_t *)from.bytes, from.length / 2, request[1], to.bytes, to.length);
-        memcpy(answer, (uint64_t[]){ r.number, r.place, r.packs, r.bytes }, 4 * sizeof *answer);
+        memcpy(answer, (uint64_t[]){ r.number, r.place, r.word, r.packs, r.bytes }, 5 * sizeof *answer);
     } else if (request[0] == READ) {
         vanc_read_back r = vanc_read(request[1], from.bytes, from.length, (uint16_t *)to.bytes, to.length / 2);
         memcpy(answer, (uint64_t[]){ r.number, r.place, r.packing, r.packets, r.numbers }, 5 * sizeof *answer);
@@ -106,7 +106,10 @@ static void call(const uint64_t request[5], lent from, lent to, uint64_t answer[
         memcpy(answer, (uint64_t[]){ r.number, r.place, r.length }, 3 * sizeof *answer);
     } else if (request[0] == MXF_WRITE) {
         vanc_element_written r = vanc_mxf_write((const uint16_t *)from.bytes, from.length / 2, request[2] != 0, to.bytes, to.length);
-        memcpy(answer, (uint64_t[]){ r.number, r.place, r.packets, r.bytes }, 4 * sizeof *answer);
+        memcpy(answer, (uint64_t[]){ r.number, r.place, r.word, r.packets, r.bytes }, 5 * sizeof *answer);
+    } else if (request[0] == TEST_PACKET) {
+        vanc_judged r = vanc_test_packet((const uint16_t *)from.bytes, from.length / 2);
+        memcpy(answer, (uint64_t[]){ r.number, r.word, r.kind }, 3 * sizeof *answer);
     } else {
         vanc_element_read r =
             vanc_mxf_read(request[1], request[2] != 0, from.bytes, from.length, (uint16_t *)to.bytes, to.length / 2);

@@ -58,6 +58,7 @@ pub fn request(call: &Call) -> Vec<u8> {
         Call::Walk { system, string, place } => (*system, *place, string.clone(), Vec::new()),
         Call::MxfWrite { sheet, fi, element } => (0, u64::from(*fi), bytes_of(sheet), element.clone()),
         Call::MxfRead { system, fi, element, buffer } => (*system, u64::from(*fi), element.clone(), bytes_of(buffer)),
+        Call::TestPacket { words } => (0, 0, bytes_of(words), Vec::new()),
     };
     let mut bytes = Vec::new();
     for number in [call.which() as u64, first, second, reads.len() as u64, writes.len() as u64] {
@@ -79,7 +80,7 @@ pub fn answer(call: &Call, from: &mut impl Read) -> io::Result<Answer> {
     let length = match call {
         Call::Lay { area: lent, .. } | Call::MxfWrite { element: lent, .. } => lent.len(),
         Call::Read { buffer, .. } | Call::MxfRead { buffer, .. } => 2 * buffer.len(),
-        Call::Walk { .. } => 0,
+        Call::Walk { .. } | Call::TestPacket { .. } => 0,
     };
     let mut bytes = vec![0; length];
     from.read_exact(&mut bytes)?;
@@ -90,7 +91,7 @@ pub fn answer(call: &Call, from: &mut impl Read) -> io::Result<Answer> {
         Call::Read { .. } | Call::MxfRead { .. } => {
             answer.buffer = bytes.chunks(2).map(|pair| u16::from_le_bytes([pair[0], pair[1]])).collect();
         }
-        Call::Walk { .. } => {}
+        Call::Walk { .. } | Call::TestPacket { .. } => {}
     }
     Ok(answer)
 }

@@ -2,7 +2,7 @@
 
 use crate::random::Random;
 use crate::rules::{self, system, System, FORMER_LIMIT, MOST_PACKETS};
-use crate::{element, element_read_cases, element_write_cases, lay_cases, read_cases, walk_cases};
+use crate::{element, element_read_cases, element_write_cases, lay_cases, packet, packet_cases, read_cases, walk_cases};
 
 /// What a call is given.
 #[derive(Clone, PartialEq)]
@@ -12,6 +12,7 @@ pub enum Call {
     Walk { system: u64, string: Vec<u8>, place: u64 },
     MxfWrite { sheet: Vec<u16>, fi: bool, element: Vec<u8> },
     MxfRead { system: u64, fi: bool, element: Vec<u8>, buffer: Vec<u16> },
+    TestPacket { words: Vec<u16> },
 }
 
 /// What a call gives back: the result's fields in the header's order (then 0), guards that were changed, and the lent buffer: an area's
@@ -39,8 +40,9 @@ pub const READ: usize = 1;
 pub const WALK: usize = 2;
 pub const MXF_WRITE: usize = 3;
 pub const MXF_READ: usize = 4;
-pub const CALLS: usize = 5;
-pub const NAMES: [&str; CALLS] = ["lay", "read", "walk", "mxf write", "mxf read"];
+pub const TEST_PACKET: usize = 5;
+pub const CALLS: usize = 6;
+pub const NAMES: [&str; CALLS] = ["lay", "read", "walk", "mxf write", "mxf read", "test packet"];
 
 impl Call {
     pub fn which(&self) -> usize {
@@ -50,16 +52,17 @@ impl Call {
             Call::Walk { .. } => WALK,
             Call::MxfWrite { .. } => MXF_WRITE,
             Call::MxfRead { .. } => MXF_READ,
+            Call::TestPacket { .. } => TEST_PACKET,
         }
     }
 
-    /// The answer by document 01 and the requests A1 and A6.
+    /// The answer by document 01 and the requests A1, A2 and A6.
     pub fn expected(&self) -> Answer {
         let mut answer = Answer { fields: [0; 5], changed: 0, bytes: Vec::new(), buffer: Vec::new() };
         match self {
             Call::Lay { sheet, packing, area } => {
                 let laid = rules::lay(sheet, *packing, area);
-                answer.fields = [laid.number, laid.place, laid.packs, laid.bytes, 0];
+                answer.fields = [laid.number, laid.place, laid.word, laid.packs, laid.bytes];
                 answer.bytes = laid.area;
             }
             Call::Read { system, area, buffer } => {
@@ -73,13 +76,17 @@ impl Call {
             }
             Call::MxfWrite { sheet, fi, element } => {
                 let written = element::write(sheet, *fi, element);
-                answer.fields = [written.number, written.place, written.packets, written.bytes, 0];
+                answer.fields = [written.number, written.place, written.word, written.packets, written.bytes];
                 answer.bytes = written.element;
             }
             Call::MxfRead { system, fi, element, buffer } => {
                 let back = element::read(*system, *fi, element, buffer);
                 answer.fields = [back.number, back.place, back.packets, back.numbers, 0];
                 answer.buffer = back.buffer;
+            }
+            Call::TestPacket { words } => {
+                let judged = packet::test_packet(words);
+                answer.fields = [judged.number, judged.word, judged.kind, 0, 0];
             }
         }
         answer
@@ -109,15 +116,16 @@ pub fn how_many(packets: usize) -> String {
     }
 }
 
-/// A fourth of the cases are of elements.
+/// About a fourth of the cases are of elements, and a tenth of packets alone.
 pub fn make(seed: u64, case: u64) -> Case {
     let mut random = Random::of_case(seed, case);
-    match random.weighted(&[252, 252, 96, 90, 110]) {
+    match random.weighted(&[230, 230, 86, 90, 100, 80]) {
         LAY => lay_cases::make(&mut random),
         READ => read_cases::make(&mut random),
         WALK => walk_cases::make(&mut random),
         MXF_WRITE => element_write_cases::make(&mut random),
-        _ => element_read_cases::make(&mut random),
+        MXF_READ => element_read_cases::make(&mut random),
+        _ => packet_cases::make(&mut random),
     }
 }
 

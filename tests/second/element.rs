@@ -2,12 +2,13 @@
 //! ST 436-1 where that is named.
 
 use crate::packet::{sheet, Packet};
-use crate::rules::{listed, refuse_if, system, Refusal, System, MOST_PACKETS};
+use crate::rules::{listed, refuse_if, system, Refusal, SheetRefusal, System, MOST_PACKETS};
 
 /// What writing an element gives back, and the element buffer after it.
 pub struct Written {
     pub number: u64,
     pub place: u64,
+    pub word: u64,
     pub packets: u64,
     pub bytes: u64,
     pub element: Vec<u8>,
@@ -66,9 +67,9 @@ pub fn serves(system: &System, fi: bool, packet: &Packet) -> bool {
 
 /// On refusal the later figures are 0: "target unchanged". On success the buffer past the element is unchanged.
 pub fn write(sheet: &[u16], fi: bool, buffer: &[u8]) -> Written {
-    let mut written = Written { number: 0, place: 0, packets: 0, bytes: 0, element: buffer.to_vec() };
+    let mut written = Written { number: 0, place: 0, word: 0, packets: 0, bytes: 0, element: buffer.to_vec() };
     match writing(sheet, fi, buffer.len()) {
-        Err((number, place)) => (written.number, written.place) = (number, place),
+        Err(refusal) => (written.number, written.place, written.word) = (refusal.number, refusal.place, refusal.word),
         Ok((packets, element)) => {
             written.element[..element.len()].copy_from_slice(&element);
             written.packets = packets as u64;
@@ -79,7 +80,7 @@ pub fn write(sheet: &[u16], fi: bool, buffer: &[u8]) -> Written {
 }
 
 /// How many packets are served, and the element. "On export the lister's, 18, with the packet, for one served without a line, 17".
-fn writing(sheet: &[u16], fi: bool, room: usize) -> Result<(usize, Vec<u8>), Refusal> {
+fn writing(sheet: &[u16], fi: bool, room: usize) -> Result<(usize, Vec<u8>), SheetRefusal> {
     let (system, packets) = listed(sheet)?;
     let mut served = Vec::new();
     // The packet's number counts those that are passed over.

@@ -1,9 +1,9 @@
-//! The worked figures of document 01 against these rules, and of its rulings what has figures; the packet limit of request A6, and the
-//! header's sizes. Then elements in full, and elements of other programs.
+//! The worked figures of document 01 against these rules, and of its rulings what has figures; the words of request A2, the packet limit of
+//! request A6, and the header's sizes. Then elements in full, and elements of other programs.
 
 use crate::element::{self, ELEMENT_MAX, ELEMENT_SHEET_MAX, MOST_WORDS};
 use crate::lists::dcs_of_words;
-use crate::packet::{checksum_word, danc, sheet, words, Packet};
+use crate::packet::{checksum_word, danc, sheet, test_packet, words, Packet};
 use crate::rules::{lay, read, room, system, walk, ReadBack, FORMER_LIMIT, LONGEST_STRING, MOST_PACKETS, SHEET_MAX};
 
 fn packet(line: u16, flags: u16, user: &[u8]) -> Packet {
@@ -49,6 +49,98 @@ fn single_words() {
     assert_eq!(danc(&packet(1125, 0, &[]))[..3], [0xE5, 0x68, 0xFF]);
     assert_eq!(danc(&packet(0, 0, &[]))[..3], [0x00, 0x60, 0xFF]);
     assert_eq!(danc(&packet(127, 0, &[]))[..3], [0xFF, 0x60, 0xFF]);
+}
+
+/// Number, word and kind of the packet that these words begin with.
+fn judged(words: &[u16]) -> (u64, u64, u64) {
+    let judged = test_packet(words);
+    (judged.number, judged.word, judged.kind)
+}
+
+/// Words with some of them replaced.
+fn with(words: &[u16], changes: &[(usize, u16)]) -> Vec<u16> {
+    let mut words = words.to_vec();
+    changes.iter().for_each(|&(at, word)| words[at] = word);
+    words
+}
+
+/// "on success whether the packet is Type 1 (DID 80h or above) or Type 2", whatever stands behind it.
+#[test]
+fn types_of_packets() {
+    for (did, kind) in [(0x00, 2), (0x45, 2), (0x7F, 2), (0x80, 1), (0x81, 1), (0xFF, 1)] {
+        for user in [vec![], vec![0x10, 0x80], vec![0xFF; 255]] {
+            let mut packet = packet(9, 0, &user);
+            packet.bytes[0] = did;
+            for behind in [vec![], vec![0x000], vec![0xFFFF; 9], words(&packet)] {
+                assert_eq!(judged(&[words(&packet), behind].concat()), (0, 0, kind));
+            }
+        }
+    }
+}
+
+/// "For 7 it is the first wrong flag word, else the first missing word": in words that are few, a wrong one comes first.
+#[test]
+fn words_of_the_flag() {
+    let p = words(&packet(9, 0, &[0x10, 0x80]));
+    for left in 0..7 {
+        assert_eq!(judged(&p[..left]), (7, left as u64, 0));
+        for at in 0..left.min(3) {
+            assert_eq!(judged(&with(&p[..left], &[(at, p[at] ^ 1)])), (7, at as u64, 0));
+        }
+    }
+    assert_eq!((judged(&[]), judged(&[5]), judged(&[0, 1]), judged(&[0, 0x3FF])), ((7, 0, 0), (7, 0, 0), (7, 1, 0), (7, 2, 0)));
+    assert_eq!(judged(&with(&p[..8], &[(2, 0x3FE)])), (7, 2, 0));
+    assert_eq!(judged(&with(&p, &[(1, 0x7FF), (2, 0), (3, 0)])), (7, 1, 0));
+    assert_eq!(judged(&with(&p, &[(0, 0x3FF), (1, 0)])), (7, 0, 0));
+}
+
+/// "7; 8 on DID, SDID and DC; 9; 8 on the user words; 10": each fault with its word, and the first of two in this order.
+#[test]
+fn words_from_did_on() {
+    let p = words(&packet(9, 0, &[0x10, 0x80]));
+    for at in 3..8 {
+        for word in [p[at] ^ 0x100, p[at] ^ 0x200, p[at] ^ 0x01, p[at] | 0x400, 0xFFFF] {
+            assert_eq!(judged(&with(&p, &[(at, word)])), (8, at as u64, 0));
+            assert_eq!(judged(&with(&p, &[(at, word), (8, 0)])), (8, at as u64, 0));
+        }
+    }
+    assert_eq!(judged(&with(&p, &[(8, 0x2D8)])), (10, 8, 0));
+    assert_eq!((judged(&p[..7]), judged(&p[..8])), ((9, 7, 0), (9, 8, 0)));
+    // A user word is not looked at before the packet is whole; DID, SDID and DC are.
+    assert_eq!((judged(&with(&p[..8], &[(7, 0)])), judged(&with(&p[..8], &[(4, 0), (7, 0)]))), ((9, 8, 0), (8, 4, 0)));
+    // DC with its parity: one more asks for a word more, one fewer makes CS of the last user word.
+    assert_eq!((judged(&with(&p, &[(5, 0x203)])), judged(&with(&p, &[(5, 0x101)]))), ((9, 9, 0), (10, 7, 0)));
+    let longest = words(&packet(9, 0, &[0x80; 255]));
+    assert_eq!((judged(&with(&longest, &[(260, 0)])), judged(&with(&longest, &[(261, 0)]))), ((8, 260, 0), (10, 261, 0)));
+    assert_eq!((judged(&longest[..261]), judged(&longest[..7])), ((9, 261, 0), (9, 7, 0)));
+    let none = words(&packet(9, 0, &[]));
+    assert_eq!(judged(&with(&none, &[(6, 0x146)])), (10, 6, 0));
+}
+
+/// "Laying and the lister pass the word on after the place; for refusals other than 7 to 10 it is 0": and so does the writing of elements.
+#[test]
+fn words_of_a_sheet() {
+    let packets = [packet(9, 0, &[0x10, 0x80]), packet(9, 0, &[]), packet(9, 0, &[1, 2, 3])];
+    let p_sheet = sheet(1, &packets);
+    // Section C begins behind 2 numbers, P, three locations and W.
+    let (first, second, third) = (10, 19, 26);
+    let both = |sheet: &[u16]| {
+        let (laid, written) = (lay(sheet, 2, &[0; 9_600]), element::write(sheet, false, &[0; 200]));
+        assert_eq!((laid.number, laid.place, laid.word), (written.number, written.place, written.word));
+        (laid.number, laid.place, laid.word)
+    };
+    assert_eq!(both(&p_sheet), (0, 0, 0));
+    assert_eq!((both(&with(&p_sheet, &[(first + 2, 0)])), both(&with(&p_sheet, &[(second + 1, 0)]))), ((7, 0, 2), (7, 1, 1)));
+    assert_eq!((both(&with(&p_sheet, &[(first + 7, 0)])), both(&with(&p_sheet, &[(third + 8, 0)]))), ((8, 0, 7), (8, 2, 8)));
+    assert_eq!((both(&with(&p_sheet, &[(second + 6, 0)])), both(&with(&p_sheet, &[(third + 9, 0)]))), ((10, 1, 6), (10, 2, 9)));
+    for left in 1..10 {
+        let cut = with(&p_sheet[..third + left], &[(first - 1, (third - first + left) as u16)]);
+        assert_eq!(both(&cut), (if left < 7 { 7 } else { 9 }, 2, left as u64));
+    }
+    // 2, 6 and 11: the word is 0, whatever the packets are.
+    assert_eq!((both(&p_sheet[..30]), both(&with(&p_sheet, &[(7, 1126), (third + 8, 0)]))), ((2, 0, 0), (6, 2, 0)));
+    let one_location = [&[1, 1, 1, 9, 0], &sheet(1, &packets[..2])[7..]].concat();
+    assert_eq!(both(&one_location), (11, 0, 0));
 }
 
 #[test]

@@ -1,4 +1,4 @@
-//! Compares libvanc with a second implementation of document 01 and the requests A1 and A6, on cases made by chance.
+//! Compares libvanc with a second implementation of document 01 and the requests A1, A2 and A6, on cases made by chance.
 //!
 //! second SEED CASES COMMAND [ARG..]         asks COMMAND (answer.c) CASES cases; exits with 1 on a mismatch or a number never met
 //! second --case SEED CASE COMMAND [ARG..]   makes one case again and shows it
@@ -15,6 +15,7 @@ mod lay_cases;
 mod lists;
 mod pack_faults;
 mod packet;
+mod packet_cases;
 mod random;
 mod read_cases;
 mod rules;
@@ -23,6 +24,7 @@ mod show;
 mod shrink;
 mod smaller;
 mod smaller_element;
+mod smaller_packet;
 mod string_faults;
 mod tally;
 mod walk_cases;
@@ -88,7 +90,7 @@ fn run(seed: u64, cases: u64, command: &[String]) -> io::Result<bool> {
     let mut mismatches = Vec::new();
     for (i, case, expected) in asked {
         let given = answer(&case.call, &mut answers).ok();
-        tally.count(case.call.which(), expected.fields[0], expected.fields[1], case.kind);
+        tally.count(&case.call, &expected.fields, case.kind);
         let ended = given.is_none();
         if given != Some(expected) {
             mismatches.push(Mismatch { case: i, call: case.call.which(), size: size(&case.call) });

@@ -1,4 +1,4 @@
-//! The ten-bit packet, its DANC bytes and the sheet. Quotations are from document 01.
+//! The ten-bit packet and its test, its DANC bytes and the sheet. Quotations are from document 01 and request A2.
 
 /// A packet and its location. `bytes` are the low eight bits of DID, SDID or DBN, DC and the user words.
 #[derive(Clone)]
@@ -39,6 +39,60 @@ pub fn words(packet: &Packet) -> Vec<u16> {
     words.extend(packet.bytes.iter().map(|&byte| parity_word(byte)));
     words.push(checksum_word(&packet.bytes));
     words
+}
+
+/// The first fault of a packet: its number, 7 to 10, and "which of its words, from 0, is the first at fault".
+pub struct Fault {
+    pub number: u64,
+    pub word: u64,
+}
+
+fn fault(number: u64, word: usize) -> Fault {
+    Fault { number, word: word as u64 }
+}
+
+/// "8: a word from DID to the last user word is not its low byte with right bits above", for those from `first` up to `end`.
+fn with_parity(words: &[u16], first: usize, end: usize) -> Result<(), Fault> {
+    let wrong = words[first..end].iter().position(|&word| word != parity_word(word as u8));
+    wrong.map_or(Ok(()), |k| Err(fault(8, first + k)))
+}
+
+/// DID to the last user byte of the packet that the words begin with, or its first fault: "7; 8 on DID, SDID and DC; 9; 8 on the user words;
+/// 10". What stands behind CS is not its.
+pub fn packet_in_front(words: &[u16]) -> Result<Vec<u8>, Fault> {
+    // "7: fewer than 7 words left, or no 000h 3FFh 3FFh" - "For 7 it is the first wrong flag word, else the first missing word"
+    let wrong_flag = words.iter().zip([0x000, 0x3FF, 0x3FF]).position(|(&word, right)| word != right);
+    if wrong_flag.is_some() || words.len() < 7 {
+        return Err(fault(7, wrong_flag.unwrap_or(words.len())));
+    }
+    with_parity(words, 3, 6)?;
+    // "9: fewer than DC + 7 words left" - "for 9 the first missing"
+    let dc = (words[5] & 0xFF) as usize;
+    if words.len() < dc + 7 {
+        return Err(fault(9, words.len()));
+    }
+    with_parity(words, 6, 6 + dc)?;
+    let bytes: Vec<u8> = words[3..6 + dc].iter().map(|&word| word as u8).collect();
+    // "10: CS wrong"
+    if words[6 + dc] != checksum_word(&bytes) {
+        return Err(fault(10, 6 + dc));
+    }
+    Ok(bytes)
+}
+
+/// What the test of a packet gives back.
+pub struct Judged {
+    pub number: u64,
+    pub word: u64,
+    pub kind: u64,
+}
+
+/// "on success whether the packet is Type 1 (DID 80h or above) or Type 2"
+pub fn test_packet(words: &[u16]) -> Judged {
+    match packet_in_front(words) {
+        Ok(bytes) => Judged { number: 0, word: 0, kind: if bytes[0] >= 0x80 { 1 } else { 2 } },
+        Err(fault) => Judged { number: fault.number, word: fault.word, kind: 0 },
+    }
 }
 
 /// "Header byte 0: LE in bit 7, line bits 6 to 0 below it. Header byte 1: FI in bit 7, reserved bits 6 and 5, YCF in bit 4, line bits

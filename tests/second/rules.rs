@@ -1,11 +1,12 @@
 //! Laying, reading and walking by document 01, written a second time and as plainly as it goes. Quotations are from document 01.
 
-use crate::packet::{checksum_word, danc, from_danc, parity_word, sheet, Packet};
+use crate::packet::{danc, from_danc, packet_in_front, sheet, Packet};
 
 /// What laying gives back, and the area after it.
 pub struct Laid {
     pub number: u64,
     pub place: u64,
+    pub word: u64,
     pub packs: u64,
     pub bytes: u64,
     pub area: Vec<u8>,
@@ -36,6 +37,20 @@ pub fn refuse_if(fault: bool, number: u64, place: usize) -> Result<(), Refusal> 
         Err((number, place as u64))
     } else {
         Ok(())
+    }
+}
+
+/// A refusal of a sheet. Request A2: "Laying and the lister pass the word on after the place".
+pub struct SheetRefusal {
+    pub number: u64,
+    pub place: u64,
+    pub word: u64,
+}
+
+impl From<Refusal> for SheetRefusal {
+    /// "for refusals other than 7 to 10 it is 0"
+    fn from((number, place): Refusal) -> SheetRefusal {
+        SheetRefusal { number, place, word: 0 }
     }
 }
 
@@ -100,11 +115,14 @@ pub const SHEET_MAX: usize = 4 + 2 * MOST_PACKETS + LONGEST_STRING;
 
 /// "On refusal the later figures are 0 and the area [..] is unchanged."
 pub fn lay(sheet: &[u16], packing: u64, area: &[u8]) -> Laid {
-    laying(sheet, packing, area).unwrap_or_else(|(number, place)| Laid { number, place, packs: 0, bytes: 0, area: area.to_vec() })
+    laying(sheet, packing, area).unwrap_or_else(|refusal| {
+        let SheetRefusal { number, place, word } = refusal;
+        Laid { number, place, word, packs: 0, bytes: 0, area: area.to_vec() }
+    })
 }
 
 /// "Laying tests 1 to 6 in table order. Then packet by packet: 7; 8 on DID, SDID and DC; 9; 8 on the user words; 10. Then 11, 12."
-fn laying(sheet: &[u16], packing: u64, area: &[u8]) -> Result<Laid, Refusal> {
+fn laying(sheet: &[u16], packing: u64, area: &[u8]) -> Result<Laid, SheetRefusal> {
     refuse_if(packing != 1 && packing != 2, 1, 0)?;
     let sections = sections(sheet).ok_or((2, 0))?;
     let system = system(sections.system as u64).ok_or((3, 0))?;
@@ -118,6 +136,7 @@ fn laying(sheet: &[u16], packing: u64, area: &[u8]) -> Result<Laid, Refusal> {
     Ok(Laid {
         number: 0,
         place: 0,
+        word: 0,
         packs: packs.len() as u64,
         bytes: string.len() as u64,
         area: area_with(area, &blocks, &packs.concat()),
@@ -125,7 +144,7 @@ fn laying(sheet: &[u16], packing: u64, area: &[u8]) -> Result<Laid, Refusal> {
 }
 
 /// The system and the packets of a sheet. "The lister [..] makes the tests 2, 3, 5 to 11".
-pub fn listed(sheet: &[u16]) -> Result<(System, Vec<Packet>), Refusal> {
+pub fn listed(sheet: &[u16]) -> Result<(System, Vec<Packet>), SheetRefusal> {
     let sections = sections(sheet).ok_or((2, 0))?;
     let system = system(sections.system as u64).ok_or((3, 0))?;
     let packets = packets_of_sections(&sections, &system)?;
@@ -133,7 +152,7 @@ pub fn listed(sheet: &[u16]) -> Result<(System, Vec<Packet>), Refusal> {
 }
 
 /// The tests 5 to 11.
-fn packets_of_sections(sections: &Sections, system: &System) -> Result<Vec<Packet>, Refusal> {
+fn packets_of_sections(sections: &Sections, system: &System) -> Result<Vec<Packet>, SheetRefusal> {
     let locations: Vec<(u16, u16)> = sections.locations.chunks(2).map(|pair| (pair[0], pair[1])).collect();
     refuse_if(locations.len() > MOST_PACKETS, 5, 0)?;
     for (k, &(line, flags)) in locations.iter().enumerate() {
@@ -170,25 +189,15 @@ fn sections(sheet: &[u16]) -> Option<Sections<'_>> {
 }
 
 /// DID to the last user byte of each packet, or the first refusal 7 to 10.
-fn packets_of_words(words: &[u16]) -> Result<Vec<Vec<u8>>, Refusal> {
+fn packets_of_words(words: &[u16]) -> Result<Vec<Vec<u8>>, SheetRefusal> {
     let mut packets: Vec<Vec<u8>> = Vec::new();
     let mut left = words;
     while !left.is_empty() {
-        let k = packets.len();
-        // "7: fewer than 7 words left, or no 000h 3FFh 3FFh"
-        refuse_if(left.len() < 7 || left[..3] != [0x000, 0x3FF, 0x3FF], 7, k)?;
-        // "8: a word from DID to the last user word is not its low byte with right bits above"
-        let wrong = |word: &u16| *word != parity_word(*word as u8);
-        refuse_if(left[3..6].iter().any(wrong), 8, k)?;
-        // "9: fewer than DC + 7 words left"
-        let dc = (left[5] & 0xFF) as usize;
-        refuse_if(left.len() < dc + 7, 9, k)?;
-        refuse_if(left[6..6 + dc].iter().any(wrong), 8, k)?;
-        let bytes: Vec<u8> = left[3..6 + dc].iter().map(|&word| word as u8).collect();
-        // "10: CS wrong"
-        refuse_if(left[6 + dc] != checksum_word(&bytes), 10, k)?;
+        let place = packets.len() as u64;
+        let bytes = packet_in_front(left).map_err(|fault| SheetRefusal { number: fault.number, place, word: fault.word })?;
+        // The flag's three words and CS.
+        left = &left[bytes.len() + 4..];
         packets.push(bytes);
-        left = &left[dc + 7..];
     }
     Ok(packets)
 }

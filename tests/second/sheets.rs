@@ -47,7 +47,7 @@ impl Draft {
 
 /// Puts one fault into the sheet, and names it. Some leave it sound, as a count that is off by 0.
 pub fn put_fault(random: &mut Random, draft: &mut Draft, system: &System) -> &'static str {
-    match random.weighted(&[3, 5, 5, 5, 5, 3, 5, 10, 20, 12, 8, 6, 6, 6]) {
+    match random.weighted(&[3, 5, 5, 5, 5, 3, 5, 10, 20, 12, 8, 6, 6, 6, 5]) {
         0 => put(&mut draft.count_a, random.pick(&[0, 2, 3, 256, 257, 65_535]), "count A"),
         1 => put(&mut draft.system, random.pick(&[0, 1, 2, 3, 4, 255, 257, 65_535]), "system"),
         2 => put(&mut draft.count_p_off, count_off(random), "count P"),
@@ -61,7 +61,8 @@ pub fn put_fault(random: &mut Random, draft: &mut Draft, system: &System) -> &'s
         10 => wrong_dc(random, draft),
         11 => cut_packet(random, draft),
         12 => words_added(random, draft, system),
-        _ => locations_differ(random, draft),
+        13 => locations_differ(random, draft),
+        _ => longest_packet(random, draft, system),
     }
 }
 
@@ -109,10 +110,29 @@ fn chosen<'a>(random: &mut Random, draft: &'a mut Draft) -> Option<&'a mut Vec<u
 }
 
 fn wrong_word(random: &mut Random, draft: &mut Draft) -> &'static str {
-    let words = match chosen(random, draft).filter(|words| words.len() >= 7) {
-        Some(words) => words,
-        None => return "word",
-    };
+    in_packet(random, draft, change_word);
+    "word"
+}
+
+fn wrong_checksum(random: &mut Random, draft: &mut Draft) -> &'static str {
+    in_packet(random, draft, change_checksum);
+    "CS"
+}
+
+fn wrong_dc(random: &mut Random, draft: &mut Draft) -> &'static str {
+    in_packet(random, draft, change_dc);
+    "DC"
+}
+
+/// Puts a fault into the words of a packet. One that was cut before has none of its own.
+fn in_packet(random: &mut Random, draft: &mut Draft, change: fn(&mut Random, &mut [u16])) {
+    if let Some(words) = chosen(random, draft).filter(|words| words.len() >= 7) {
+        change(random, words);
+    }
+}
+
+/// Changes one of a packet's words: any, and often one of the first or last. There are seven or more.
+pub fn change_word(random: &mut Random, words: &mut [u16]) {
     let end = words.len() - 1;
     let any = random.below(end + 1);
     let k = random.pick(&[0, 1, 2, 3, 4, 5, 6, end - 1, end, any, any, any]);
@@ -134,15 +154,10 @@ fn wrong_word(random: &mut Random, draft: &mut Draft) -> &'static str {
         0x3FF,
         0x3FC,
     ]);
-    "word"
 }
 
-/// Also the "errors that look right": "Giving CS the parity of its own byte" and "Summing bytes".
-fn wrong_checksum(random: &mut Random, draft: &mut Draft) -> &'static str {
-    let words = match chosen(random, draft).filter(|words| words.len() >= 7) {
-        Some(words) => words,
-        None => return "CS",
-    };
+/// Changes CS. Also the "errors that look right": "Giving CS the parity of its own byte" and "Summing bytes".
+pub fn change_checksum(random: &mut Random, words: &mut [u16]) {
     let end = words.len() - 1;
     let cs = words[end];
     let of_bytes = words[3..end].iter().fold(0_u16, |sum, word| sum.wrapping_add(word & 0xFF));
@@ -157,14 +172,10 @@ fn wrong_checksum(random: &mut Random, draft: &mut Draft) -> &'static str {
         with_bit_9(cs.wrapping_add(1) & 0x1FF),
         0,
     ]);
-    "CS"
 }
 
-fn wrong_dc(random: &mut Random, draft: &mut Draft) -> &'static str {
-    let words = match chosen(random, draft).filter(|words| words.len() >= 7) {
-        Some(words) => words,
-        None => return "DC",
-    };
+/// Another DC, with right parity; now and then a wrong word besides.
+pub fn change_dc(random: &mut Random, words: &mut [u16]) {
     let (dc, any) = (words[5] as u8, random.byte());
     let other = random.pick(&[dc.wrapping_add(1), dc.wrapping_sub(1), 0, 255, any]);
     words[5] = parity_word(other);
@@ -172,7 +183,6 @@ fn wrong_dc(random: &mut Random, draft: &mut Draft) -> &'static str {
         let any = random.below(words.len());
         words[any] ^= 0x100;
     }
-    "DC"
 }
 
 /// Ends section C inside the last packet, with the count right; now and then with a further fault before the cut.
@@ -188,6 +198,20 @@ fn cut_packet(random: &mut Random, draft: &mut Draft) -> &'static str {
         words[any] ^= 0x100;
     }
     "last packet cut"
+}
+
+/// The longest packet in place of the last, at fault in one of its last words: a word that is named may take more than eight bits.
+fn longest_packet(random: &mut Random, draft: &mut Draft, system: &System) -> &'static str {
+    let mut longest = words(&packet(random, system.last_line, 255));
+    match random.below(3) {
+        0 => longest.truncate(random.pick(&[261, 261, 260, 256])),
+        1 => longest[random.pick(&[260, 260, 259, 256])] ^= random.pick(&[0x100, 0x300, 0x400]),
+        _ => change_checksum(random, &mut longest),
+    }
+    if let Some(last) = draft.packets.last_mut() {
+        *last = longest;
+    }
+    "the longest packet"
 }
 
 /// Words behind the last packet, with the count right: the start of a packet, or a whole one without a location.

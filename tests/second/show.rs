@@ -7,11 +7,12 @@ use crate::smaller_element::structure_length;
 use crate::tally::NUMBERS;
 
 const FIELDS: [&[&str]; CALLS] = [
-    &["number", "place", "packs", "bytes"],
+    &["number", "place", "word", "packs", "bytes"],
     &["number", "place", "packing", "packets", "numbers"],
     &["number", "place", "length"],
-    &["number", "place", "packets", "bytes"],
+    &["number", "place", "word", "packets", "bytes"],
     &["number", "place", "packets", "numbers"],
+    &["number", "word", "kind"],
 ];
 
 /// What a call is given, each part in at most `most` rows.
@@ -49,6 +50,10 @@ pub fn show_call(call: &Call, most: usize) {
             show_rows(&element_rows(element), most);
             println!("  sheet buffer of {} numbers, hex:", buffer.len());
             show_rows(&buffer.chunks(32).map(hex_numbers).collect::<Vec<_>>(), most);
+        }
+        Call::TestPacket { words } => {
+            println!("  test packet, {} words, hex:", words.len());
+            show_rows(&packet_rows(words), most);
         }
     }
 }
@@ -91,16 +96,24 @@ fn sheet_rows(sheet: &[u16]) -> Vec<String> {
     let section_b = sheet.len().min(2);
     let count = sheet.get(2).map_or(0, |&count| count as usize);
     let section_c = (3 + 2 * count).min(sheet.len());
-    let mut words = &sheet[(section_c + 1).min(sheet.len())..];
+    let words = &sheet[(section_c + 1).min(sheet.len())..];
     let mut rows = vec![
         format!("A: {}", hex_numbers(&sheet[..section_b])),
         format!("B: {}", hex_numbers(&sheet[section_b..section_c])),
         format!("C: {}", hex_numbers(&sheet[section_c..sheet.len() - words.len()])),
     ];
-    while !words.is_empty() {
-        let length = words.get(5).map_or(words.len(), |dc| (dc & 0xFF) as usize + 7).min(words.len());
-        rows.push(format!("   {}", hex_numbers(&words[..length])));
-        words = &words[length..];
+    rows.extend(packet_rows(words));
+    rows
+}
+
+/// A row for each packet, as far as the DCs lead.
+fn packet_rows(words: &[u16]) -> Vec<String> {
+    let mut left = words;
+    let mut rows = Vec::new();
+    while !left.is_empty() {
+        let length = left.get(5).map_or(left.len(), |dc| (dc & 0xFF) as usize + 7).min(left.len());
+        rows.push(format!("   {}", hex_numbers(&left[..length])));
+        left = &left[length..];
     }
     rows
 }
@@ -169,7 +182,7 @@ pub fn show_difference(expected: &Answer, given: &Answer) {
 /// How often each number was met in each call, and which cannot be.
 pub fn show_numbers(met: &[[u64; NUMBERS]; CALLS], cannot: impl Fn(usize, usize) -> bool) {
     let row = |first: &str, cells: Vec<String>| {
-        let cells: Vec<String> = cells.iter().map(|cell| format!("{cell:>10}")).collect();
+        let cells: Vec<String> = cells.iter().map(|cell| format!("{cell:>11}")).collect();
         println!("{first:>8} {}", cells.join(" "));
     };
     row("number", NAMES.iter().map(|name| name.to_string()).collect());

@@ -7,6 +7,7 @@ use crate::asker::Asker;
 use crate::cases::Call;
 use crate::smaller::*;
 use crate::smaller_element::*;
+use crate::smaller_packet::*;
 
 /// Tries in one sweep.
 const MOST_TRIES: usize = 2_000;
@@ -19,7 +20,7 @@ type Count = fn(&Call) -> usize;
 type Change = fn(&Call, usize, usize) -> Option<Call>;
 
 /// What is tried in each round, in this order.
-const SWEEPS: [(Count, Change); 23] = [
+const SWEEPS: [(Count, Change); 26] = [
     (packets, without_packets),
     (packets, with_user_words_halved),
     (packets, with_one_user_word_less),
@@ -42,6 +43,9 @@ const SWEEPS: [(Count, Change); 23] = [
     (element_bytes, with_zeros_in_element),
     (target_bytes, without_target_bytes),
     (target_bytes, with_zeros_in_target),
+    (user_words, without_user_words),
+    (tested_words, without_tested_words),
+    (tested_words, with_plain_words),
     (settings, with_plain_setting),
 ];
 

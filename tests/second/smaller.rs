@@ -14,6 +14,7 @@ pub fn size(call: &Call) -> usize {
         Call::Read { .. } => 5 * area_packs(call),
         Call::Walk { string, .. } => string.len(),
         Call::MxfRead { element, .. } => element.len(),
+        Call::TestPacket { words } => words.len(),
     }
 }
 
@@ -41,7 +42,7 @@ fn sheet(call: &Call) -> Option<Vec<u16>> {
             let back = element::read(*system, *fi, element, &[0; ELEMENT_SHEET_MAX]);
             (back.packets > 0).then(|| back.buffer[..back.numbers as usize].to_vec())
         }
-        Call::Walk { .. } => None,
+        Call::Walk { .. } | Call::TestPacket { .. } => None,
     }
 }
 
@@ -67,7 +68,7 @@ fn with_sheet(call: &Call, sheet: Vec<u16>) -> Option<Call> {
             let element = written.element[..written.bytes as usize].to_vec();
             Some(Call::MxfRead { system: *system, fi: *fi, element, buffer: buffer.clone() })
         }
-        Call::Walk { .. } => None,
+        Call::Walk { .. } | Call::TestPacket { .. } => None,
     }
 }
 
@@ -397,6 +398,7 @@ pub fn settings(call: &Call) -> usize {
     match call {
         Call::Walk { .. } => PLAIN.len() + 2,
         Call::MxfWrite { .. } | Call::MxfRead { .. } => PLAIN.len() + 1,
+        Call::TestPacket { .. } => 0,
         _ => PLAIN.len(),
     }
 }
@@ -413,7 +415,7 @@ pub fn with_plain_setting(call: &Call, which: usize, count: usize) -> Option<Cal
         Call::Walk { place, .. } if which == PLAIN.len() => *place /= 2,
         Call::Walk { place, .. } if which > PLAIN.len() => *place = place.saturating_sub(1),
         Call::MxfWrite { fi, .. } | Call::MxfRead { fi, .. } if which == PLAIN.len() => *fi = false,
-        Call::MxfWrite { .. } => return None,
+        Call::MxfWrite { .. } | Call::TestPacket { .. } => return None,
         Call::Lay { packing: value, .. }
         | Call::Read { system: value, .. }
         | Call::Walk { system: value, .. }

@@ -2,14 +2,14 @@
 
 use std::collections::BTreeMap;
 
-use crate::cases::{CALLS, LAY, MXF_READ, MXF_WRITE, NAMES, READ, WALK};
+use crate::cases::{Call, CALLS, LAY, MXF_READ, MXF_WRITE, NAMES, READ, TEST_PACKET, WALK};
 use crate::show::show_numbers;
 
 /// 0, and the refusals 1 to 19.
 pub const NUMBERS: usize = 20;
 
 /// Numbers that a call cannot give, and why.
-const CANNOT: [(usize, &[usize], &str); 15] = [
+const CANNOT: [(usize, &[usize], &str); 17] = [
     (LAY, &[13, 14, 15, 16], "laying does not look at packs or strings that are there already"),
     (LAY, &[17], "laying writes neither a sheet nor an element"),
     (LAY, &[18, 19], "these are tests of an element's packets and of an element"),
@@ -29,6 +29,8 @@ const CANNOT: [(usize, &[usize], &str); 15] = [
     (MXF_READ, &[1, 4, 12, 13, 14, 15, 16], "an element has neither packing nor area nor packs; its lines are a matter of 19"),
     (MXF_READ, &[2, 6, 7, 8, 9, 10, 11], "these are tests of a sheet, and reading is given none"),
     (MXF_READ, &[18], "an element's packets have lines; line 0 is 19"),
+    (TEST_PACKET, &[1, 2, 3, 4, 5, 6], "a packet alone has neither packing nor sheet nor area"),
+    (TEST_PACKET, &[11, 12, 13, 14, 15, 16, 17, 18, 19], "nor a location, nor is it laid, read or written"),
 ];
 
 /// From this packet or location on a refusal is late: its place has more than ten bits.
@@ -37,26 +39,97 @@ const LATE: u64 = 1_024;
 /// Numbers whose place is a packet or a location, and that have to be met as late as that.
 const BY_PACKET: [(usize, &[usize]); 4] = [(LAY, &[6, 7, 8, 9, 10]), (READ, &[5, 14, 15, 16]), (MXF_WRITE, &[18]), (MXF_READ, &[5])];
 
+/// Of the words that request A2 names, those that have to be met with each number: from the first to the last of a run, one of them. 260 is the
+/// last of 255 user words.
+const WORDS: [(u64, u64, u64); 19] = [
+    (7, 0, 0),
+    (7, 1, 1),
+    (7, 2, 2),
+    (7, 3, 3),
+    (7, 4, 4),
+    (7, 5, 5),
+    (7, 6, 6),
+    (8, 3, 3),
+    (8, 4, 4),
+    (8, 5, 5),
+    (8, 6, 6),
+    (8, 7, 259),
+    (8, 260, 260),
+    (9, 7, 7),
+    (9, 8, 260),
+    (9, 261, 261),
+    (10, 6, 6),
+    (10, 7, 260),
+    (10, 261, 261),
+];
+
+/// How 7 comes to a flag word of a packet that is tested alone.
+const FLAG: [&str; 3] = ["wrong", "wrong, and others missing", "missing"];
+
+/// The shape of a call's word, where it names one.
+fn shape(call: &Call, fields: &[u64; 5]) -> Option<String> {
+    let (number, word) = match call {
+        Call::Lay { .. } | Call::MxfWrite { .. } => (fields[0], fields[2]),
+        Call::TestPacket { .. } => (fields[0], fields[1]),
+        _ => return None,
+    };
+    let run = WORDS.iter().find(|(of, first, last)| *of == number && (*first..=*last).contains(&word))?;
+    match call {
+        Call::TestPacket { words } if number == 7 && word < 3 => {
+            let left = words.len();
+            let how = if word as usize == left { 2 } else { usize::from(left < 7) };
+            Some(format!("{}, {}", name_of(run), FLAG[how]))
+        }
+        _ => Some(name_of(run)),
+    }
+}
+
+fn name_of((number, first, last): &(u64, u64, u64)) -> String {
+    if first == last {
+        format!("{number} at word {first}")
+    } else {
+        format!("{number} at words {first} to {last}")
+    }
+}
+
+/// The shapes that have to be met in a call.
+fn shapes(call: usize) -> Vec<String> {
+    let all = WORDS.iter().flat_map(|run| match (call, run) {
+        (TEST_PACKET, (7, 0..=2, _)) => FLAG.map(|how| format!("{}, {how}", name_of(run))).to_vec(),
+        _ => vec![name_of(run)],
+    });
+    all.filter(|_| [LAY, MXF_WRITE, TEST_PACKET].contains(&call)).collect()
+}
+
 fn cannot(call: usize, number: usize) -> bool {
     CANNOT.iter().any(|(of, numbers, _)| *of == call && numbers.contains(&number))
 }
 
-/// Counts of a run: numbers by call, those with a late place too, and kinds of cases.
+/// Counts of a run: numbers by call, those with a late place too, shapes of words by call, types of sound packets, and kinds of cases.
 pub struct Tally {
     met: [[u64; NUMBERS]; CALLS],
     late: [[u64; NUMBERS]; CALLS],
+    words: BTreeMap<(usize, String), u64>,
+    types: [u64; 2],
     kinds: BTreeMap<String, u64>,
 }
 
 impl Tally {
     pub fn new() -> Tally {
-        Tally { met: [[0; NUMBERS]; CALLS], late: [[0; NUMBERS]; CALLS], kinds: BTreeMap::new() }
+        Tally { met: [[0; NUMBERS]; CALLS], late: [[0; NUMBERS]; CALLS], words: BTreeMap::new(), types: [0; 2], kinds: BTreeMap::new() }
     }
 
-    pub fn count(&mut self, call: usize, number: u64, place: u64, kind: String) {
-        self.met[call][number as usize] += 1;
-        if place >= LATE {
-            self.late[call][number as usize] += 1;
+    /// `fields` are those of the right answer.
+    pub fn count(&mut self, call: &Call, fields: &[u64; 5], kind: String) {
+        let (which, number) = (call.which(), fields[0] as usize);
+        self.met[which][number] += 1;
+        if which == TEST_PACKET && number == 0 {
+            self.types[fields[2] as usize - 1] += 1;
+        } else if which != TEST_PACKET && fields[1] >= LATE {
+            self.late[which][number] += 1;
+        }
+        if let Some(shape) = shape(call, fields) {
+            *self.words.entry((which, shape)).or_default() += 1;
         }
         *self.kinds.entry(kind).or_default() += 1;
     }
@@ -65,14 +138,18 @@ impl Tally {
         self.met.iter().flatten().sum()
     }
 
-    /// Numbers that can be met in a call, or with a late place, and were not.
+    /// Numbers that can be met in a call, or with a late place, and shapes of words and types of packets, that were not.
     pub fn missed(&self) -> Vec<String> {
         let all = (0..CALLS).flat_map(|call| (0..NUMBERS).map(move |number| (call, number)));
         let missed = all.filter(|&(call, number)| self.met[call][number] == 0 && !cannot(call, number));
         let never = missed.map(|(call, number)| format!("{number} on {}", NAMES[call]));
         let late = BY_PACKET.iter().flat_map(|&(call, numbers)| numbers.iter().map(move |&number| (call, number)));
         let never_late = late.filter(|&(call, number)| self.late[call][number] == 0);
-        never.chain(never_late.map(|(call, number)| format!("{number} on {}, at {LATE} or later", NAMES[call]))).collect()
+        let never_late = never_late.map(|(call, number)| format!("{number} on {}, at {LATE} or later", NAMES[call]));
+        let shapes = (0..CALLS).flat_map(|call| shapes(call).into_iter().map(move |shape| (call, shape)));
+        let no_shape = shapes.filter(|shape| !self.words.contains_key(shape)).map(|(call, shape)| format!("{shape} on {}", NAMES[call]));
+        let no_type = (0..2).filter(|&k| self.types[k] == 0).map(|k| format!("a sound packet of type {}", k + 1));
+        never.chain(never_late).chain(no_shape).chain(no_type).collect()
     }
 
     pub fn show(&self) {
@@ -89,6 +166,12 @@ impl Tally {
             let late: Vec<String> = numbers.iter().map(|&number| format!("{number} {} times", self.late[call][number])).collect();
             println!("  {}: {}", NAMES[call], late.join(", "));
         }
+        println!("first words at fault:");
+        for call in [LAY, MXF_WRITE, TEST_PACKET] {
+            let times = |shape: String| format!("{shape}: {}", self.words.get(&(call, shape.clone())).unwrap_or(&0));
+            println!("  {}: {}", NAMES[call], shapes(call).into_iter().map(times).collect::<Vec<_>>().join("; "));
+        }
+        println!("sound packets that were tested: {} of type 1, {} of type 2", self.types[0], self.types[1]);
         println!("cannot be met (-):");
         for (call, numbers, why) in CANNOT {
             let numbers: Vec<String> = numbers.iter().map(usize::to_string).collect();
