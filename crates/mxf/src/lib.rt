@@ -59,6 +59,7 @@ fn wrapping(system: u64) -> u8
 pub struct ElementWritten {
     pub number: u64,
     pub place: u64,
+    pub word: u64,
     pub packets: u64,
     pub bytes: u64,
 }
