@@ -33,7 +33,7 @@ pub fn printed(result: &[u8], status: i32, written: &[u8]) -> i32 {
     ended(files::print(result), status, written)
 }
 
-// What is at fault, where, and what is wrong, on standard error.
+// What is at fault, where, and what is wrong, on standard error. The longest, of a packet and its word, has some 150 bytes, whatever the numbers are.
 fn say_refusal(what: &[u8], number: u64, place: u64, word: u64, sheet: &[u16]) {
     let mut why = [0u8; 256];
     let a = text::put_text(&mut why, 0, b": ");

@@ -163,8 +163,8 @@ fn put_location(out: &mut [u8], at: usize, k: u64, sheet: &[u16]) -> usize
     text::put_text(out, c, b"): ")
 }
 
-// Where it is wrong: what the place of a refusal counts, and for 7 to 10 the word of the packet (document 02, A2). `sheet` is the one that was refused,
-// and without numbers where none was.
+// Where it is wrong: what the place of a refusal counts, and for 7 to 10 the word of the packet (document 02, A2). `sheet` is the one that was
+// refused, and without numbers where none was.
 pub fn put_place(
     out: &mut [u8],
     at: usize,

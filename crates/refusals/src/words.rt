@@ -1,5 +1,4 @@
-// The word that a refusal names (document 02, A2), for an operator who has the sheet before him: which of the packet's words it is, what it is called
-// (SMPTE 291), and what stands there.
+// The word that a refusal names (document 02, A2), in words: which of the packet's it is, what it is called (SMPTE 291), and what stands there.
 ghost use Prim.Native.Nat.{_≤_, _<_};
 ghost use lib.ListN.{length};
 ghost use Rattle.io.specs.Counts.{Counts};
