@@ -33,22 +33,37 @@ pub fn printed(result: &[u8], status: i32, written: &[u8]) -> i32 {
     ended(files::print(result), status, written)
 }
 
-// What is at fault, where, and what is wrong, on standard error; the refusal's line on standard output.
-fn refused_in(what: &[u8], number: u64, place: u64, sheet: &[u16]) -> i32 {
+// What is at fault, where, and what is wrong, on standard error. The longest, of a packet and its word, has some 150 bytes, whatever the numbers are.
+fn say_refusal(what: &[u8], number: u64, place: u64, word: u64, sheet: &[u16]) {
     let mut why = [0u8; 256];
     let a = text::put_text(&mut why, 0, b": ");
-    let b = refusals::put_place(&mut why, a, number, place, sheet);
+    let b = refusals::put_place(&mut why, a, number, place, word, sheet);
     let n = refusals::put_words(&mut why, b, number);
     files::say(what, &why[..n]);
-    let mut line = [0u8; 64];
-    let k = text::put_refusal(&mut line, number, place);
-    printed(&line[..k], REFUSED, b"")
 }
 
-// A refusal of what is no sheet.
+// A refusal of what is no sheet, by a call that gives back no word.
 pub fn refused(what: &[u8], number: u64, place: u64) -> i32 {
     let none = [0u16; 0];
-    refused_in(what, number, place, &none)
+    say_refusal(what, number, place, 0, &none);
+    let mut line = [0u8; 64];
+    let n = text::put_refusal(&mut line, number, place);
+    printed(&line[..n], REFUSED, b"")
+}
+
+// A refusal by a call that gives back a word too, and was given the sheet whose numbers stand in s.
+pub fn refused_with_word(
+    what: &[u8],
+    number: u64,
+    place: u64,
+    word: u64,
+    s: &[u16; NUMBERS],
+) -> i32 {
+    let numbers = &s[..];
+    say_refusal(what, number, place, word, numbers);
+    let mut line = [0u8; 96];
+    let n = text::put_refusal_with_word(&mut line, number, place, word);
+    printed(&line[..n], REFUSED, b"")
 }
 
 pub fn say_length(name: &[u8]) {
@@ -59,9 +74,15 @@ pub fn say_length(name: &[u8]) {
 }
 
 // A refusal of a sheet file, whose numbers stand in s; where the file's length is at fault, that is said too.
-pub fn sheet_refused(name: &[u8], file: &[u8], number: u64, place: u64, s: &[u16; NUMBERS]) -> i32 {
-    let numbers = &s[..];
-    let status = refused_in(name, number, place, numbers);
+pub fn sheet_refused(
+    name: &[u8],
+    file: &[u8],
+    number: u64,
+    place: u64,
+    word: u64,
+    s: &[u16; NUMBERS],
+) -> i32 {
+    let status = refused_with_word(name, number, place, word, s);
     if number == 2 && !sheet_file::is_whole(file) {
         say_length(name);
     }

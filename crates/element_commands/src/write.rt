@@ -26,7 +26,7 @@ fn write_and_replace(
     let mut bytes = [0u8; LONGEST];
     let r = file_codec::write_element(file, fi, &mut s, &mut bytes);
     if r.number != 0 {
-        return ending::sheet_refused(sheet, file, r.number, r.place, &s);
+        return ending::sheet_refused(sheet, file, r.number, r.place, r.word, &s);
     }
     if !files::replace_by_first(element, path, is, &bytes, r.bytes) {
         return FAILED;

@@ -13,12 +13,12 @@ use sheet_file::NUMBERS;
 
 fn refuse(r: Laid, sheet: &[u8], file: &[u8], s: &[u16; NUMBERS], area: &[u8]) -> i32 {
     if r.number == 1 {
-        return ending::refused(b"PACKING", r.number, r.place);
+        return ending::refused_with_word(b"PACKING", r.number, r.place, r.word, s);
     }
     if r.number == 4 {
-        return ending::refused(area, r.number, r.place);
+        return ending::refused_with_word(area, r.number, r.place, r.word, s);
     }
-    ending::sheet_refused(sheet, file, r.number, r.place, s)
+    ending::sheet_refused(sheet, file, r.number, r.place, r.word, s)
 }
 
 fn lay_and_replace(

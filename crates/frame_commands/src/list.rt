@@ -11,7 +11,7 @@ fn list(name: &[u8], file: &[u8]) -> i32 {
     let l = listing::list(file, &mut s, &mut out);
     let t = l.tested;
     if t.number != 0 {
-        return ending::sheet_refused(name, file, t.number, t.place, &s);
+        return ending::sheet_refused(name, file, t.number, t.place, t.word, &s);
     }
     let n = l.bytes;
     ending::printed(&out[..n], DONE, b"")

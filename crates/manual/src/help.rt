@@ -26,8 +26,10 @@ fn write_overview(fd: i32) -> bool {
         \x20 vanc help NAME, vanc NAME --help         says more of a command\n\
         \x20 vanc help refusals                       says the numbers of refusals in words\n\
         \x20 vanc --version                           says the version\n\n\
-        A refusal prints its number and its place, and says on standard error what is wrong. Then\n\
-        no file is changed; a file is replaced whole or not at all.\n\
+        A refusal prints its number and its place (refused 14 at 1). In list, lay and mxf-write the\n\
+        packet's word at fault stands behind them, or 0 (refused 8 at 31 6). Standard error says\n\
+        what is wrong, and what stands in that word. Then no file is changed; a file is replaced\n\
+        whole or not at all.\n\
         Status: 0 done; 1 refused by the rules; 2 called wrongly, or a file or a stream that could\n\
         not be read or written.\n",
     )
@@ -45,7 +47,7 @@ pub fn say_overview() -> i32 {
 
 // The version, which include/vanc.h has too, and the toolchain that all was proved with (TOOLCHAIN).
 pub fn version() -> i32 {
-    print(b"vanc 0.3.0, proved with rattle-kit-5b-plain logic 097e4c862dff5811\n")
+    print(b"vanc 0.4.0, proved with rattle-kit-5b-plain logic 097e4c862dff5811\n")
 }
 
 // ---- a page for each command

@@ -1,12 +1,16 @@
 // Outside vectors: the ten-bit words of 264 ancillary packets as the ancillary encoder of GStreamer 1.22 writes them, a packet to a line, in
 // hexadecimal (data/words291.txt): every DC from 0 to 255, every DID and SDID, and document 01's worked packets. Each is to be accepted, word
-// for word; and with one bit of one word flipped, whichever it is, refused with the right number: 7 in the flag, 10 in CS, 8 between them.
+// for word, as the type that its DID has; and with one bit of one word flipped, whichever it is, refused with the right number (7 in the flag, 10 in
+// CS, 8 between them) at that word (document 02, A2).
 ghost use Prim.Native.Nat.{_+_, _*_, _≤_, _<_};
 ghost use lib.ListN.{length};
 ghost use mathlib.Core.Path.{_≡_};
+use rules::Judged;
 
+// `firsts` of the packets are of type 1.
 pub struct Counts {
     pub packets: u64,
+    pub firsts: u64,
     pub sevens: u64,
     pub eights: u64,
     pub tens: u64,
@@ -56,7 +60,12 @@ fn right_number(i: usize, left: usize) -> u64 {
     10
 }
 
-// How many of the ten flips of word i are refused so.
+// Whether the answer is a refusal with this number and this word.
+fn is_refusal(j: Judged, number: u64, word: usize) -> bool {
+    j.number == number && j.word == word as u64 && j.kind == 0
+}
+
+// How many of the ten flips of word i are refused with this number and this word.
 fn flips(ws: &mut [u16], i: usize, number: u64) -> u64
     requires { ⌜ i < length (now ws) ⌝ }
     ensures { λ r. ⌜ r ≤ 10 ⌝ }
@@ -67,7 +76,7 @@ fn flips(ws: &mut [u16], i: usize, number: u64) -> u64
     let mut good: u64 = 0;
     while done < 10 {
         ws[i] = w ^ bit;
-        if packet::fault(ws) == number {
+        if is_refusal(packet::fault(ws), number, i) {
             good += 1;
         }
         bit = bit % 32768 * 2;
@@ -82,6 +91,7 @@ fn counted(c: Counts, number: u64, good: u64) -> Counts {
     if number == 7 {
         return Counts {
             packets: c.packets,
+            firsts: c.firsts,
             sevens: std::num::wrapping_add_u64(c.sevens, good),
             eights: c.eights,
             tens: c.tens,
@@ -91,6 +101,7 @@ fn counted(c: Counts, number: u64, good: u64) -> Counts {
     if number == 8 {
         return Counts {
             packets: c.packets,
+            firsts: c.firsts,
             sevens: c.sevens,
             eights: std::num::wrapping_add_u64(c.eights, good),
             tens: c.tens,
@@ -99,6 +110,7 @@ fn counted(c: Counts, number: u64, good: u64) -> Counts {
     }
     Counts {
         packets: c.packets,
+        firsts: c.firsts,
         sevens: c.sevens,
         eights: c.eights,
         tens: std::num::wrapping_add_u64(c.tens, good),
@@ -118,9 +130,22 @@ fn all_flips(ws: &mut [u16], from: Counts) -> Counts {
     c
 }
 
-fn accepted(c: Counts) -> Counts {
+// The type of a packet: bit 7 of its DID is set in those of type 1, "DID 80h or above" (document 02, A2).
+fn right_kind(ws: &[u16]) -> u64 {
+    if 3 < ws.len() {
+        return 2 - (ws[3] / 128 % 2) as u64;
+    }
+    0
+}
+
+fn is_accepted(j: Judged, kind: u64) -> bool {
+    j.number == 0 && j.word == 0 && j.kind == kind
+}
+
+fn accepted(c: Counts, kind: u64) -> Counts {
     Counts {
         packets: std::num::wrapping_add_u64(c.packets, 1),
+        firsts: std::num::wrapping_add_u64(c.firsts, kind % 2),
         sevens: c.sevens,
         eights: c.eights,
         tens: c.tens,
@@ -130,9 +155,10 @@ fn accepted(c: Counts) -> Counts {
 
 fn try_packet(ws: &mut [u16], from: Counts) -> Counts {
     let mut c = from;
+    let kind = right_kind(ws);
     if word_for_word(ws) {
-        if packet::fault(ws) == 0 {
-            c = accepted(from);
+        if is_accepted(packet::fault(ws), kind) {
+            c = accepted(from, kind);
         }
     }
     all_flips(ws, c)
@@ -176,6 +202,7 @@ fn try_all(text: &[u8], ws: &mut [u16]) -> Counts
 {
     let mut c = Counts {
         packets: 0,
+        firsts: 0,
         sevens: 0,
         eights: 0,
         tens: 0,
@@ -231,8 +258,9 @@ fn main() {
     let mut ws = [0u16; 262];
     let c = try_all(&text[..n], &mut ws);
     say(b"packets accepted, word for word: ", c.packets);
-    say(b"flips refused with 7: ", c.sevens);
-    say(b"flips refused with 8: ", c.eights);
-    say(b"flips refused with 10: ", c.tens);
+    say(b"of these of type 1, and said to be: ", c.firsts);
+    say(b"flips refused with 7 at the word: ", c.sevens);
+    say(b"flips refused with 8 at the word: ", c.eights);
+    say(b"flips refused with 10 at the word: ", c.tens);
     say(b"flips with another answer: ", c.wrong);
 }

@@ -2,6 +2,8 @@
 ghost use Rattle.io.specs.Counts.{Counts};
 use frame::LIMIT;
 
+mod words;
+
 // The last number.
 pub const LAST: u64 = 19;
 
@@ -143,13 +145,13 @@ fn put_packet(out: &mut [u8], at: usize, k: u64, sheet: &[u16]) -> usize
     let a = text::put_labelled(out, at, b"packet ", k);
     let line = line_of(sheet, k);
     if line == NONE {
-        return text::put_text(out, a, b": ");
+        return a;
     }
     if line == 0 {
-        return text::put_text(out, a, b" (no line): ");
+        return text::put_text(out, a, b" (no line)");
     }
     let b = text::put_labelled(out, a, b" (line ", line);
-    text::put_text(out, b, b"): ")
+    text::put(out, b, b')')
 }
 
 fn put_location(out: &mut [u8], at: usize, k: u64, sheet: &[u16]) -> usize
@@ -161,13 +163,29 @@ fn put_location(out: &mut [u8], at: usize, k: u64, sheet: &[u16]) -> usize
     text::put_text(out, c, b"): ")
 }
 
-// Where it is wrong: what the place of a refusal counts. `sheet` is the one that was refused, and without numbers where none was.
-pub fn put_place(out: &mut [u8], at: usize, number: u64, place: u64, sheet: &[u16]) -> usize
+// Where it is wrong: what the place of a refusal counts, and for 7 to 10 the word of the packet (document 02, A2). `sheet` is the one that was
+// refused, and without numbers where none was.
+pub fn put_place(
+    out: &mut [u8],
+    at: usize,
+    number: u64,
+    place: u64,
+    word: u64,
+    sheet: &[u16],
+) -> usize
     ensures { λ r. ⌜ Counts r (now (out .exit)) ⌝ }
 {
     match number {
         6 => put_location(out, at, place, sheet),
-        7 | 8 | 9 | 10 | 14 | 15 | 16 | 18 => put_packet(out, at, place, sheet),
+        7 | 8 | 9 | 10 => {
+            let a = put_packet(out, at, place, sheet);
+            let b = words::put(out, a, sheet, place, word);
+            text::put_text(out, b, b": ")
+        }
+        14 | 15 | 16 | 18 => {
+            let a = put_packet(out, at, place, sheet);
+            text::put_text(out, a, b": ")
+        }
         19 => {
             let a = text::put_labelled(out, at, b"byte ", place);
             text::put_text(out, a, b": ")

@@ -51,6 +51,25 @@ pub fn put_byte(out: &mut [u8], at: usize, x: u8) -> usize
     put(out, o, digit(x))
 }
 
+// The upper byte of a word: one digit, where there are no more.
+fn put_upper(out: &mut [u8], at: usize, x: u8) -> usize
+    ensures { λ r. ⌜ Counts r (now (out .exit)) ⌝ }
+{
+    if x < 16 {
+        return put(out, at, digit(x));
+    }
+    put_byte(out, at, x)
+}
+
+// A word as the rules write words, `3FFh`: three digits for its ten bits, and four where a sheet has more there.
+pub fn put_word(out: &mut [u8], at: usize, w: u16) -> usize
+    ensures { λ r. ⌜ Counts r (now (out .exit)) ⌝ }
+{
+    let a = put_upper(out, at, (w / 256) as u8);
+    let b = put_byte(out, a, (w % 256) as u8);
+    put(out, b, b'h')
+}
+
 // A label, and the number behind it.
 pub fn put_labelled(out: &mut [u8], at: usize, label: &[u8], n: u64) -> usize
     ensures { λ r. ⌜ Counts r (now (out .exit)) ⌝ }
@@ -68,11 +87,21 @@ pub fn put_two(out: &mut [u8], first: &[u8], n: u64, second: &[u8], m: u64) -> u
     put(out, b, b'\n')
 }
 
-// "A refusal prints one line, as `refused 10 at 0`."
+// "A refusal prints one line, as `refused 10 at 0`." So it is printed by what reads areas and elements, whose refusals name no word.
 pub fn put_refusal(out: &mut [u8], number: u64, place: u64) -> usize
     ensures { λ r. ⌜ Counts r (now (out .exit)) ⌝ }
 {
     put_two(out, b"refused ", number, b" at ", place)
+}
+
+// "Laying and the lister pass the word on after the place" (document 02, A2): `refused 8 at 31 6`.
+pub fn put_refusal_with_word(out: &mut [u8], number: u64, place: u64, word: u64) -> usize
+    ensures { λ r. ⌜ Counts r (now (out .exit)) ⌝ }
+{
+    let a = put_labelled(out, 0, b"refused ", number);
+    let b = put_labelled(out, a, b" at ", place);
+    let c = put_labelled(out, b, b" ", word);
+    put(out, c, b'\n')
 }
 
 // Whether two texts are the same.

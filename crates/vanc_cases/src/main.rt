@@ -134,6 +134,7 @@ fn show_laid(r: Laid, h: u64) {
     say(b"laid");
     number(r.number);
     number(r.place);
+    number(r.word);
     number(r.packs);
     number(r.bytes);
     number(h);

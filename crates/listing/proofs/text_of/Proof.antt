@@ -9,10 +9,10 @@ use Rattle.listing.proofs.text_of.Statement.{statement}
 use Rattle.listing.proofs.text_of.Tie as tie
 use Rattle.listing.proofs.put_first.Reads as put-first-reads
 use Rattle.listing.proofs.put_rows.Reads as put-rows-reads
-use Rattle.text.proofs.put_refusal.Reads as put-refusal-reads
+use Rattle.text.proofs.put_refusal_with_word.Reads as put-refusal-with-word-reads
 
-put-refusal-requires : tie.Need-put-refusal-requires
-put-refusal-requires c κs = search needs
+put-refusal-with-word-requires : tie.Need-put-refusal-with-word-requires
+put-refusal-with-word-requires c κs = search needs
 
 same-length : tie.Need-same-length
 same-length c = search needs
@@ -51,7 +51,7 @@ pub text-of-spec : {M : Type 1} → statement M
 text-of-spec =
     tie.close
     (tie.spec
-    put-refusal-requires
+    put-refusal-with-word-requires
     same-length
     returns
     put-first-requires

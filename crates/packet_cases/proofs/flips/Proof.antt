@@ -33,6 +33,9 @@ slice-write-ws c = search needs
 fault-requires : tie.Need-fault-requires Inv-loop μ-loop
 fault-requires c κs = search needs
 
+is-refusal-requires : tie.Need-is-refusal-requires Inv-loop μ-loop
+is-refusal-requires c κs = search needs
+
 add-good : tie.Need-add-good Inv-loop μ-loop
 add-good c = search needs
 
@@ -72,6 +75,7 @@ flips-spec =
     mul-ws
     slice-write-ws
     fault-requires
+    is-refusal-requires
     add-good
     mul-bit
     add-done
