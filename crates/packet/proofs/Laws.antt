@@ -1,22 +1,22 @@
 -- What the proofs of the functions rest on.
 --
--- In order: the parity of a byte; the table of words; a pass over words; a pass over a part of them; the parts of the sum that CS holds; the word
--- that a number names.
+-- In order: the parity of a byte; the table of words; a pass over words; a pass over a part of them; the parts of the sum that CS holds; the tests
+-- that are left; the word that a number names.
 -- Assumes nothing.
 use Prim.Native.Nat.{ℕ, zero, suc, _+_, _-_, _*_, _/_, _%_, _≤_, _<_}
 use mathlib.Core.Path.{_≡_, refl, ap, sym, _∙_}
-use mathlib.Core.Bool.{Bool, true, false, _&&_}
+use mathlib.Core.Bool.{Bool, true, false, cond, not, _&&_}
 use mathlib.Core.List.{List, [], _∷_, _++_}
 use native.Mathlib.Omega.{arith}
 use native.Mathlib.Nat.{add-comm, add-zero, zero-add}
 use native.Mathlib.Numerals.{add-one}
 use lib.Bits.{bitXor}
-use lib.Dec.{eqb}
+use lib.Dec.{eqb, ltb}
 use lib.ListN.{length, getD, set, take, drop, drop-of-length-le, take-append-drop}
 use lib.Seq.{drop-cons, take-add, drop-drop, take-all}
 use borrow.Author.Tests.{eq-eqb, ne-eqb, eqb-true}
 use Rattle.rules.specs.Packet.{parity, word, sum9, check}
-use Rattle.rules.specs.Laying.{isWord, areWords, wordsFault, wordsBefore, flagWord, wordAt, faultOf, typeOf, judged}
+use Rattle.rules.specs.Laying.{isWord, areWords, dcIn, wordsFault, wordsBefore, flagWord, wordAt, faultOf, typeOf, judged}
 use Rattle.rules.proofs.Basics.{both, rest-part, copy-turn, copy-full}
 use Rattle.rules.proofs.Words.{words-append, fault-long}
 use Rattle.rules.specs.declared.Fault.{Fault}
@@ -153,6 +153,26 @@ pub check-parts : (d h u : ℕ) (s : List ℕ) → h ≡ sum9 (take 3 (drop 3 s)
 unfolding check
 check-parts d h u s e f = rw (e, f, sum9-parts d s)
 
+-- ---- the tests that are left: after the user words, after 9, after DID, SDID and DC, after the flag
+
+abbrev pub lastTest : List ℕ → ℕ
+lastTest s = cond (not (eqb (getD s (dcIn s + 6) 0) (check (take (dcIn s + 3) (drop 3 s))))) 10 0
+
+abbrev pub userTests : List ℕ → ℕ
+userTests s = cond (not (areWords (take (dcIn s) (drop 6 s)))) 8 (lastTest s)
+
+abbrev pub sizeTests : List ℕ → ℕ
+sizeTests s = cond (ltb (length s) (dcIn s + 7)) 9 (userTests s)
+
+abbrev pub headTests : List ℕ → ℕ
+headTests s = cond (not (areWords (take 3 (drop 3 s)))) 8 (sizeTests s)
+
+-- where DID, SDID and DC are right, all from DID to the last user word are when the user words are
+pub words-parts : (d : ℕ) (s : List ℕ) → areWords (take 3 (drop 3 s)) ≡ true → areWords (take (d + 3) (drop 3 s)) ≡ areWords (take d (drop 6 s))
+words-parts d s e =
+    rw (add-comm d 3, take-add 3 d (drop 3 s), drop-drop 3 3 s)
+    (words-append (take 3 (drop 3 s)) (take d (drop 6 s)) ∙ ap (λ (b : Bool). b && areWords (take d (drop 6 s))) e)
+
 -- ---- the word that a number names
 
 -- the flag, a word at a time: the first that is missing or wrong, or all three are right
@@ -205,18 +225,15 @@ unfolding wordAt
 fault-none s n e z = fault-named s 0 0 (sym z ∙ e) refl
 
 -- one packet alone, refused or sound
-module _ (s : List ℕ) (f : Fault) (e : f ≡ faultOf s) where
-  number-is : f .number ≡ wordsFault s
-  number-is = ap (λ (x : Fault). x .number) e
-
-  pub one-refused : (f .number ≡ 0 → ⊥) → record { number = f .number; word = f .word; kind = 0 } ≡ judged s
+module _ (s : List ℕ) (n : ℕ) (e : n ≡ wordsFault s) where
+  pub one-refused : (w : ℕ) → (n ≡ 0 → ⊥) → w ≡ wordAt n s → record { number = n; word = w; kind = 0 } ≡ judged s
   unfolding judged
-  one-refused n =
-      rw (ne-eqb (wordsFault s) 0 (λ z. n (number-is ∙ z))) (ap (λ (x : Fault). record { number = x .number; word = x .word; kind = 0 }) e)
+  one-refused w z f =
+      rw (ne-eqb (wordsFault s) 0 (λ q. z (e ∙ q))) (ap (λ (x : Fault). record { number = x .number; word = x .word; kind = 0 }) (fault-named s n w e f))
 
-  pub one-sound : (kind : ℕ) → f .number ≡ 0 → kind ≡ typeOf (getD s 3 0 % 256) → record { number = 0; word = 0; kind = kind } ≡ judged s
+  pub one-sound : (kind : ℕ) → n ≡ 0 → kind ≡ typeOf (getD s 3 0 % 256) → record { number = 0; word = 0; kind = kind } ≡ judged s
   unfolding judged wordAt
-  one-sound kind z k = rw (sym number-is ∙ z, k)
+  one-sound kind z k = rw (sym e ∙ z, k)
 
-  pub one-long : f .number ≡ 0 → 3 < length s
-  one-long z = let l = fault-long s (sym number-is ∙ z) in omega arith
+  pub one-long : n ≡ 0 → 3 < length s
+  one-long z = let l = fault-long s (sym e ∙ z) in omega arith

@@ -277,16 +277,40 @@ fn type_of(did: u16) -> u64
     1
 }
 
+// The number of the first fault of one packet alone. Without a table, which 256 words have to be computed for; and apart from `number_by`, which is
+// made part of the loop over a sheet's packets as long as no other function calls it.
+fn number_of(ws: &[u16]) -> u64
+    ensures { λ r. ⌜ r ≡ wordsFault (now (ws .entry)) ⌝ }
+{
+    if ws.len() < 7 || ws[0] != 0x000 || ws[1] != 0x3FF || ws[2] != 0x3FF {
+        return 7;
+    }
+    if !run_of(&ws[3..6]).words {
+        return 8;
+    }
+    let end = low_byte(ws[5]) + 6;
+    if ws.len() <= end {
+        return 9;
+    }
+    let all = run_of(&ws[3..end]);
+    if !all.words {
+        return 8;
+    }
+    if ws[end] != check_word(all.sum) {
+        return 10;
+    }
+    0
+}
+
 // The test of one packet alone, which also says its type (document 02, A2).
 pub fn fault(ws: &[u16]) -> Judged
     ensures { λ r. ⌜ Judges (now (ws .entry)) r ⌝ }
 {
-    let table = words();
-    let f = fault_by(&table, ws);
-    if f.number != 0 {
+    let number = number_of(ws);
+    if number != 0 {
         return Judged {
-            number: f.number,
-            word: f.word,
+            number,
+            word: word_at(number, ws),
             kind: 0,
         };
     }
