@@ -86,6 +86,8 @@ WRONG_THREE = [
     ("its stored checksum is wrong.", "its checksum is wrong."),
     ('.Fa "bool fi"\n', ""),
     ("uint64_t packs;", "uint32_t packs;"),
+    ("    uint64_t place;\n    uint64_t word;", "    uint64_t word;\n    uint64_t place;"),
+    ('.Fa "const uint16_t *words"', '.Fa "uint16_t *words"'),
     ("VANC_ELEMENT_MAX Ta ", "VANC_ELEMENT_MAX Ta 1"),
     ("of version ", "of version 1"),
     ("whose number is ", "whose number is 1"),

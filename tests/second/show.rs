@@ -29,8 +29,7 @@ pub fn show_call(call: &Call, most: usize) {
             println!("  read, system {system}");
             println!("  area of {} bytes; those that are not FFh, by offset:", area.len());
             show_rows(&area_rows(area), most);
-            println!("  sheet buffer of {} numbers, hex:", buffer.len());
-            show_rows(&buffer.chunks(32).map(hex_numbers).collect::<Vec<_>>(), most);
+            show_buffer(buffer, most);
         }
         Call::Walk { system, string, place } => {
             println!("  walk, system {system}, place {place}");
@@ -48,14 +47,18 @@ pub fn show_call(call: &Call, most: usize) {
             println!("  mxf read, system {system}, FI {}", u8::from(*fi));
             println!("  element of {} bytes, hex, by offset:", element.len());
             show_rows(&element_rows(element), most);
-            println!("  sheet buffer of {} numbers, hex:", buffer.len());
-            show_rows(&buffer.chunks(32).map(hex_numbers).collect::<Vec<_>>(), most);
+            show_buffer(buffer, most);
         }
         Call::TestPacket { words } => {
             println!("  test packet, {} words, hex:", words.len());
             show_rows(&packet_rows(words), most);
         }
     }
+}
+
+fn show_buffer(buffer: &[u16], most: usize) {
+    println!("  sheet buffer of {} numbers, hex:", buffer.len());
+    show_rows(&buffer.chunks(32).map(hex_numbers).collect::<Vec<_>>(), most);
 }
 
 fn show_rows(rows: &[String], most: usize) {
