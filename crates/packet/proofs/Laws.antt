@@ -1,14 +1,14 @@
 -- What the proofs of the functions rest on.
 --
 -- In order: the parity of a byte; the table of words; a pass over words; a pass over a part of them; the parts of the sum that CS holds; the tests
--- that are left; the word that a number names.
+-- that are left; the word that a number names; the packets before the one that is named.
 -- Assumes nothing.
 use Prim.Native.Nat.{ℕ, zero, suc, _+_, _-_, _*_, _/_, _%_, _≤_, _<_}
-use mathlib.Core.Path.{_≡_, refl, ap, sym, _∙_}
+use mathlib.Core.Path.{_≡_, refl, ap, sym, _∙_, subst}
 use mathlib.Core.Bool.{Bool, true, false, cond, not, _&&_}
 use mathlib.Core.List.{List, [], _∷_, _++_}
 use native.Mathlib.Omega.{arith}
-use native.Mathlib.Nat.{add-comm, add-zero, zero-add}
+use native.Mathlib.Nat.{add-comm, add-zero, zero-add, le-refl}
 use native.Mathlib.Numerals.{add-one}
 use lib.Bits.{bitXor}
 use lib.Dec.{eqb, ltb}
@@ -16,10 +16,9 @@ use lib.ListN.{length, getD, set, take, drop, drop-of-length-le, take-append-dro
 use lib.Seq.{drop-cons, take-add, drop-drop, take-all}
 use borrow.Author.Tests.{eq-eqb, ne-eqb, eqb-true}
 use Rattle.rules.specs.Packet.{parity, word, sum9, check}
-use Rattle.rules.specs.Laying.{isWord, areWords, dcIn, wordsFault, wordsBefore, flagWord, wordAt, faultOf, typeOf, judged}
+use Rattle.rules.specs.Laying.{isWord, areWords, dcIn, wordsFault, wordsBefore, flagWord, wordAt, fromPacket, typeOf, judged}
 use Rattle.rules.proofs.Basics.{both, rest-part, copy-turn, copy-full}
 use Rattle.rules.proofs.Words.{words-append, fault-long}
-use Rattle.rules.specs.declared.Fault.{Fault}
 use Rattle.rules.specs.declared.Judged.{Judged}
 use Rattle.packet.specs.Run.{passOf, wordsFrom, wordTable}
 use Rattle.packet.specs.declared.Pass.{Pass}
@@ -215,21 +214,12 @@ module _ (i w : ℕ) (ws : List ℕ) (h : i < length ws) (e : w ≡ word (getD w
 pub before-end : (i : ℕ) (ws : List ℕ) → length ws ≤ i → i ≡ i + wordsBefore (drop i ws)
 before-end i ws h = rw (drop-of-length-le ws h) (omega arith)
 
--- the number and its word, from the code's own; where there is no fault, no word is looked for
-pub fault-named : (s : List ℕ) (n w : ℕ) → n ≡ wordsFault s → w ≡ wordAt n s → record { number = n; word = w } ≡ faultOf s
-fault-named s n w e f =
-    ap (λ (v : ℕ). record { number = n; word = v }) f ∙ ap (λ (m : ℕ). record { number = m; word = wordAt m s }) e
-
-pub fault-none : (s : List ℕ) (n : ℕ) → n ≡ wordsFault s → n ≡ 0 → record { number = 0; word = 0 } ≡ faultOf s
-unfolding wordAt
-fault-none s n e z = fault-named s 0 0 (sym z ∙ e) refl
-
 -- one packet alone, refused or sound
 module _ (s : List ℕ) (n : ℕ) (e : n ≡ wordsFault s) where
   pub one-refused : (w : ℕ) → (n ≡ 0 → ⊥) → w ≡ wordAt n s → record { number = n; word = w; kind = 0 } ≡ judged s
   unfolding judged
   one-refused w z f =
-      rw (ne-eqb (wordsFault s) 0 (λ q. z (e ∙ q))) (ap (λ (x : Fault). record { number = x .number; word = x .word; kind = 0 }) (fault-named s n w e f))
+      rw (ne-eqb (wordsFault s) 0 (λ q. z (e ∙ q)), f) (ap (λ (m : ℕ). record { number = m; word = wordAt m s; kind = 0 }) e)
 
   pub one-sound : (kind : ℕ) → n ≡ 0 → kind ≡ typeOf (getD s 3 0 % 256) → record { number = 0; word = 0; kind = kind } ≡ judged s
   unfolding judged wordAt
@@ -237,3 +227,27 @@ module _ (s : List ℕ) (n : ℕ) (e : n ≡ wordsFault s) where
 
   pub one-long : n ≡ 0 → 3 < length s
   one-long z = let l = fault-long s (sym e ∙ z) in omega arith
+
+-- ---- the packets before the one that is named
+
+-- how many words a packet takes, where there are fewer and where there are as many
+pub size-short : (s : List ℕ) (d : ℕ) → d ≡ dcIn s → length s < d + 7 → drop (length s) s ≡ drop (dcIn s + 7) s
+size-short s d e h =
+    let l : length s ≤ dcIn s + 7 = omega arith in
+    drop-of-length-le s (le-refl (length s)) ∙ sym (drop-of-length-le s l)
+
+-- the words that are lent from `at` on, and those behind one packet more
+pub behind-next : (ws : List ℕ) (at n left place : ℕ) → 0 < left
+    → let s : List ℕ = take (length ws - at) (drop at ws) in drop n s ≡ drop (dcIn s + 7) s
+    → fromPacket left (drop at ws) ≡ fromPacket place ws → fromPacket (left - 1) (drop (at + n) ws) ≡ fromPacket place ws
+behind-next ws at n zero place h e f = absurd (omega arith)
+behind-next ws at n (suc left) place h e f =
+    let k : suc left - 1 ≡ left = omega arith in
+    let g : drop n (drop at ws) ≡ drop (dcIn (drop at ws) + 7) (drop at ws) =
+    subst (λ (s : List ℕ). drop n s ≡ drop (dcIn s + 7) s) (rest-part at ws) e in
+    rw k (ap (fromPacket left) (sym (drop-drop n at ws) ∙ g) ∙ f)
+
+pub behind-all : (ws : List ℕ) (number at left place : ℕ) → left ≡ 0 → fromPacket left (drop at ws) ≡ fromPacket place ws
+    → wordAt number (take (length ws - at) (drop at ws)) ≡ wordAt number (fromPacket place ws)
+behind-all ws number at left place z f =
+    ap (wordAt number) (rest-part at ws ∙ ap (λ (n : ℕ). fromPacket n (drop at ws)) (sym z) ∙ f)

@@ -4,10 +4,9 @@ ghost use mathlib.Core.Path.{_≡_};
 ghost use Prim.Native.Nat.{_+_, _-_, _*_, _/_, _%_, _≤_, _<_};
 ghost use lib.ListN.{length, drop};
 ghost use Rattle.rules.specs.Packet.{word, check};
-ghost use Rattle.rules.specs.Laying.{wordsFault, dcIn, wordsBefore, flagWord, wordAt, faultOf, typeOf};
+ghost use Rattle.rules.specs.Laying.{wordsFault, dcIn, wordsBefore, flagWord, wordAt, fromPacket, typeOf};
 ghost use Rattle.rules.specs.Demands.{Judges};
 ghost use Rattle.packet.specs.Run.{passOf, runOf, wordTable, Passed};
-use rules::Fault;
 use rules::Judged;
 
 // Bit 8 makes the count of ones even, and bit 9 is its inverse (SMPTE 291).
@@ -175,8 +174,9 @@ fn pass_by(table: &[u16; 256], ws: &[u16]) -> Pass
 }
 
 // The number of the first fault of the packet that the words begin with, 0 for none, in document 01's order.
-// The whole sums of the two passes are added for CS, so that no word is summed twice.
-fn number_by(table: &[u16; 256], ws: &[u16]) -> u64
+// The whole sums of the two passes are added for CS, so that no word is summed twice. The table is lent, so that a caller with many
+// packets makes it once; with any other table the answer says nothing.
+pub fn fault_by(table: &[u16; 256], ws: &[u16]) -> u64
     ensures { λ r. ⌜ (now (table .entry) ≡ wordTable → r ≡ wordsFault (now (ws .entry))) ⌝ }
 {
     if ws.len() < 7 || ws[0] != 0x000 || ws[1] != 0x3FF || ws[2] != 0x3FF {
@@ -254,17 +254,29 @@ fn word_at(number: u64, ws: &[u16]) -> u64
     }
 }
 
-// The first fault of the packet that the words begin with. The word is looked for only once the packet is refused, so that one without a
-// fault costs no more. The table is lent, so that a caller with many packets makes it once; with any other table the answer says nothing.
-pub fn fault_by(table: &[u16; 256], ws: &[u16]) -> Fault
-    ensures { λ r. ⌜ (now (table .entry) ≡ wordTable → r ≡ faultOf (now (ws .entry))) ⌝ }
+// How many words the packet in front takes, DC + 7, as far as there are so many.
+fn size_of(ws: &[u16]) -> usize
+    ensures { λ r. ⌜ (r ≤ length (now (ws .entry))) × (drop r (now (ws .entry)) ≡ drop (dcIn (now (ws .entry)) + 7) (now (ws .entry))) ⌝ }
 {
-    let number = number_by(table, ws);
-    if number == 0 {
-        return Fault { number: 0, word: 0 };
+    let n = dc_of(ws) + 7;
+    if ws.len() < n {
+        return ws.len();
     }
-    let word = word_at(number, ws);
-    Fault { number, word }
+    n
+}
+
+// The word that a refusal names among packets back to back, where its place is the packet. It is looked for only once a packet is refused, and
+// apart from the loop that has tested the packets, so that those without a fault cost no more.
+pub fn word_named(number: u64, place: u64, ws: &[u16]) -> u64
+    ensures { λ r. ⌜ r ≡ wordAt number (fromPacket place (now (ws .entry))) ⌝ }
+{
+    let mut at = 0;
+    let mut left = place;
+    while 0 < left {
+        at += size_of(&ws[at..]);
+        left -= 1;
+    }
+    word_at(number, &ws[at..])
 }
 
 // "Type 1 (DID 80h or above) or Type 2" (document 02, A2).
@@ -277,7 +289,7 @@ fn type_of(did: u16) -> u64
     1
 }
 
-// The number of the first fault of one packet alone. Without a table, which 256 words have to be computed for; and apart from `number_by`, which is
+// The number of the first fault of one packet alone. Without a table, which 256 words have to be computed for; and apart from `fault_by`, which is
 // made part of the loop over a sheet's packets as long as no other function calls it.
 fn number_of(ws: &[u16]) -> u64
     ensures { λ r. ⌜ r ≡ wordsFault (now (ws .entry)) ⌝ }

@@ -14,7 +14,6 @@ use Rattle.rules.specs.Sheet.{limit, systemIn, countIn, locationsIn, wor
 use Rattle.rules.specs.Blocks.{runs, blockSizes, areaSize, scatter}
 use Rattle.rules.specs.Packings.{isPacking, laidBytes, fits, packsLaid}
 use Rattle.rules.specs.Numbers.{Outcome, listed, refused, unless, andThen, Row, packetsIn}
-use Rattle.rules.specs.declared.Fault.{Fault}
 use Rattle.rules.specs.declared.Judged.{Judged}
 use Rattle.rules.specs.declared.Laid.{Laid}
 
@@ -93,10 +92,6 @@ wordAt n s =
     (cond (eqb n 10) (dcIn s + 6)
     0)))
 
--- the first fault of the packet at the front: its number, and the word that the number names
-abbrev pub faultOf : List ℕ → Fault
-faultOf s = record { number = wordsFault s; word = wordAt (wordsFault s) s }
-
 -- "Type 1 (DID 80h or above) or Type 2"
 abbrev pub typeOf : ℕ → ℕ
 typeOf did = cond (leb 0x80 did) 1 2
@@ -105,8 +100,8 @@ typeOf did = cond (leb 0x80 did) 1 2
 unfoldable pub judged : List ℕ → Judged
 judged s =
     record {
-      number = faultOf s .number;
-      word = faultOf s .word;
+      number = wordsFault s;
+      word = wordAt (wordsFault s) s;
       kind = cond (eqb (wordsFault s) 0) (typeOf (low (getD s 3 0))) 0;
     }
 

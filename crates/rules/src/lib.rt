@@ -1,13 +1,6 @@
 // The rules of the build. What a reader must believe is in specs/, what follows from it in proofs/.
 // Here are only the shapes of what the calls give back ("Numbers given back"), so that code and rules speak of one type.
 
-// A packet's first fault: its number, 0 for none, and the word that it names (document 02, A2).
-#[repr(C)]
-pub struct Fault {
-    pub number: u64,
-    pub word: u64,
-}
-
 // What the test of a packet gives back: the first word at fault (document 02, A2), or the packet's type, 1 or 2. On refusal kind is 0.
 #[repr(C)]
 pub struct Judged {

@@ -27,7 +27,6 @@ use Rattle.rules.specs.Laying.{
   dcIn,
   wordsFault,
   wordAt,
-  faultOf,
   fromPacket,
   packetOfWords,
   wordRow,
@@ -39,7 +38,6 @@ use Rattle.rules.specs.Laying.{
   sheetTests,
 }
 use Rattle.rules.specs.Lister.{testedOf, testedWith, testedIn, tested}
-use Rattle.rules.specs.declared.Fault.{Fault}
 use Rattle.rules.specs.declared.Tested.{Tested}
 use Rattle.rules.proofs.Basics.{both, second-false, rest-part}
 use Rattle.rules.proofs.Words.{fault-long, words-enough, words-refused}
@@ -161,28 +159,6 @@ add-also sys k at packs p (listed ps) =
     let c : packs + (packsOf p + sum (map packsOf ps)) ≡ packs + packsOf p + sum (map packsOf ps) = omega arith in
     λ i. counted sys (a i) (b i) (c i)
 
--- the words from the next packet on
-from-next : (k : ℕ) (ws : List ℕ) → fromPacket (suc k) ws ≡ drop (dcIn (fromPacket k ws) + 7) (fromPacket k ws)
-from-next zero ws = refl
-from-next (suc k) ws = from-next k (drop (dcIn ws + 7) ws)
-
--- what is told of the words: a packet at fault with its word, or figures
-pub refused-told : (sys n k w : ℕ) (ws : List ℕ) (o : Outcome) → (n ≡ 0 → ⊥) → testedOf 0 (refused n k) ≡ testedOf sys o
-    → w ≡ wordAt n (fromPacket k ws) → testedWith w (testedOf 0 (refused n k)) ≡ testedIn sys ws o
-refused-told sys n k w ws (listed ps) h e f = absurd (h (ap (λ (x : Tested). x .number) e))
-refused-told sys n k w ws (refused m i) h e f =
-    let number : n ≡ m = ap (λ (x : Tested). x .number) e in
-    let place : k ≡ i = ap (λ (x : Tested). x .place) e in
-    ap₂ testedWith (f ∙ ap₂ (λ (a b : ℕ). wordAt a (fromPacket b ws)) number place) e
-
-pub figures-told : (sys k at packs : ℕ) (ws : List ℕ) (o : Outcome) → counted sys k at packs ≡ testedOf sys o
-    → counted sys k at packs ≡ testedIn sys ws o
-unfolding wordAt
-figures-told sys k at packs ws (listed ps) e = e
-figures-told sys k at packs ws (refused m i) e =
-    let number : m ≡ 0 = sym (ap (λ (x : Tested). x .number) e) in
-    e ∙ ap (λ (w : ℕ). testedWith w (testedOf sys (refused m i))) (sym (rw number))
-
 -- the packet at the front of some words, and those after it
 front : (left i : ℕ) (s : List ℕ) → 0 < length s
     → packetsIn wordRow (suc left) i s
@@ -217,29 +193,17 @@ at-end sys k at packs ws h =
     rw (z, drop-of-length-le ws h) (simp add-zero)
 
 -- a place, and what the test of the packet there gave
-module _ (at : ℕ) (ws : List ℕ) (h : at < length ws) (found : Fault) (e : found ≡ faultOf (take (length ws - at) (drop at ws))) where
-  abbrev f : ℕ
-  f = found .number
-
+module _ (at : ℕ) (ws : List ℕ) (h : at < length ws) (f : ℕ) (e : f ≡ wordsFault (take (length ws - at) (drop at ws))) where
   fault-is : f ≡ wordsFault (drop at ws)
-  fault-is = ap (λ (x : Fault). x .number) e ∙ ap wordsFault (rest-part at ws)
-
-  word-is : found .word ≡ wordAt f (drop at ws)
-  word-is =
-      ap (λ (x : Fault). x .word) (e ∙ ap faultOf (rest-part at ws)) ∙ ap (λ (n : ℕ). wordAt n (drop at ws)) (sym fault-is)
+  fault-is = e ∙ ap wordsFault (rest-part at ws)
 
   -- "the first at fault is named"
-  fault-first : (f ≡ 0 → ⊥) → (sys k packs : ℕ) → testedOf 0 (refused f k) ≡ wholeFrom sys k at packs ws
-  fault-first g sys k packs =
+  pub at-fault : (f ≡ 0 → ⊥) → (sys k packs : ℕ) → testedOf 0 (refused f k) ≡ wholeFrom sys k at packs ws
+  at-fault g sys k packs =
       let l = length-drop at ws in
       let o : packetsIn wordRow (length ws - at) k (drop at ws) ≡ refused (wordsFault (drop at ws)) k =
       front-fault (length ws - at) k (drop at ws) (omega arith) (omega arith) (λ z. g (fault-is ∙ z)) in
       sym (ap (addTo sys k at packs) (o ∙ ap (λ (n : ℕ). refused n k) (sym fault-is)))
-
-  pub at-fault : (f ≡ 0 → ⊥) → (sys k packs : ℕ) (o : Outcome) → wholeFrom sys k at packs ws ≡ testedOf sys o → fromPacket k ws ≡ drop at ws
-      → testedWith (found .word) (testedOf 0 (refused f k)) ≡ testedIn sys ws o
-  at-fault g sys k packs o i j =
-      refused-told sys f k (found .word) ws o g (fault-first g sys k packs ∙ i) (word-is ∙ ap (wordAt f) (sym j))
 
   module _ (z : f ≡ 0) where
     fine : wordsFault (drop at ws) ≡ 0
@@ -251,13 +215,6 @@ module _ (at : ℕ) (ws : List ℕ) (h : at < length ws) (found : Fault) (e : fo
     -- all its words are there
     pub all-there : at + (getD ws (at + 5) 0 % 256 + 7) ≤ length ws
     all-there = let d = dc-is in let l = length-drop at ws in let m = fault-long (drop at ws) fine in omega arith
-
-    module _ (dc : ℕ) (d : dc ≡ getD ws (at + 5) 0 % 256) where
-      behind : drop (dcIn (drop at ws) + 7) (drop at ws) ≡ drop (at + (dc + 7)) ws
-      behind = drop-drop (dcIn (drop at ws) + 7) at ws ∙ ap (λ (m : ℕ). drop (at + (m + 7)) ws) (dc-is ∙ sym d)
-
-      pub from-there : (k : ℕ) → fromPacket k ws ≡ drop at ws → fromPacket (k + 1) ws ≡ drop (at + (dc + 7)) ws
-      from-there k q = rw (add-one k) (from-next k ws ∙ ap (λ (s : List ℕ). drop (dcIn s + 7) s) q ∙ behind)
 
     -- one packet more
     pub at-next : (dc : ℕ) → dc ≡ getD ws (at + 5) 0 % 256 → (sys k packs : ℕ)
@@ -273,7 +230,8 @@ module _ (at : ℕ) (ws : List ℕ) (h : at < length ws) (found : Fault) (e : fo
         let b : packs + packsOf (packetOfWords s) ≡ packs + (2 + (dc + 3) / 4) =
         ap (λ (n : ℕ). packs + (1 + (1 + (n + 3) / 4))) u ∙ (omega arith) in
         let n : length ws - at - (dcIn s + 7) ≡ length ws - (at + (dc + 7)) = omega arith in
-        let t : drop (dcIn s + 7) s ≡ drop (at + (dc + 7)) ws = behind dc e in
+        let t : drop (dcIn s + 7) s ≡ drop (at + (dc + 7)) ws =
+        drop-drop (dcIn s + 7) at ws ∙ ap (λ (m : ℕ). drop (at + (m + 7)) ws) d in
         sym
         (ap (addTo sys k at packs) (front-fine (length ws - at) k s (omega arith) (omega arith) fine)
         ∙ add-also sys k at packs (packetOfWords s) (packetsIn wordRow (length ws - at - (dcIn s + 7)) (k + 1) (drop (dcIn s + 7) s))
@@ -332,28 +290,38 @@ module _ (sys : ℕ) (y : System) (s : List ℕ) (p : ℕ) (is : p ≡ countIn s
 
     -- what the code lends as words, and what it found in them
     module _ (all : k ≡ p) (t : Tested)
-        (found : let ws : List ℕ = take (length s - (3 + 2 * p + 1)) (drop (3 + 2 * p + 1) s) in t ≡ testedIn sys ws (packetsOfWords ws)) where
-      found-is : t ≡ testedIn sys (wordsIn s) (packetsOfWords (wordsIn s))
-      found-is =
-          let e : 3 + 2 * p + 1 ≡ 4 + 2 * countIn s = omega arith in
-          found ∙ ap (λ (ws : List ℕ). testedIn sys ws (packetsOfWords ws)) (rest-part (3 + 2 * p + 1) s ∙ ap (λ (n : ℕ). drop n s) e)
+        (found : t ≡ testedOf sys (packetsOfWords (take (length s - (3 + 2 * p + 1)) (drop (3 + 2 * p + 1) s)))) where
+      lent : take (length s - (3 + 2 * p + 1)) (drop (3 + 2 * p + 1) s) ≡ wordsIn s
+      lent = let e : 3 + 2 * p + 1 ≡ 4 + 2 * countIn s = omega arith in rest-part (3 + 2 * p + 1) s ∙ ap (λ (n : ℕ). drop n s) e
+
+      found-is : t ≡ testedOf sys (packetsOfWords (wordsIn s))
+      found-is = found ∙ ap (λ (ws : List ℕ). testedOf sys (packetsOfWords ws)) lent
 
       from-words : listTests y s ≡ andThen (packetsOfWords (wordsIn s)) (paired s)
       from-words = rw (from-six, eq-eqb k p all)
 
-      -- a packet at fault
-      pub packet-refused : (t .number ≡ 0 → ⊥) → t ≡ testedIn sys (wordsIn s) (listTests y s)
-      packet-refused h = go (packetsOfWords (wordsIn s)) found-is ∙ ap (testedIn sys (wordsIn s)) (sym from-words)
+      -- a packet at fault, and its word
+      pub packet-refused : (t .number ≡ 0 → ⊥) → (w : ℕ)
+          → w ≡ wordAt (t .number) (fromPacket (t .place) (take (length s - (3 + 2 * p + 1)) (drop (3 + 2 * p + 1) s)))
+          → testedWith w (testedOf 0 (refused (t .number) (t .place))) ≡ testedIn sys (wordsIn s) (listTests y s)
+      packet-refused h w f =
+          go (packetsOfWords (wordsIn s)) found-is (f ∙ ap (λ (ws : List ℕ). wordAt (t .number) (fromPacket (t .place) ws)) lent)
+          ∙ ap (testedIn sys (wordsIn s)) (sym from-words)
         where
-          go : (o : Outcome) → t ≡ testedIn sys (wordsIn s) o → t ≡ testedIn sys (wordsIn s) (andThen o (paired s))
-          go (refused n i) e = e
-          go (listed ps) e = absurd (h (ap (λ (x : Tested). x .number) e))
+          go : (o : Outcome) → t ≡ testedOf sys o → w ≡ wordAt (t .number) (fromPacket (t .place) (wordsIn s))
+              → testedWith w (testedOf 0 (refused (t .number) (t .place))) ≡ testedIn sys (wordsIn s) (andThen o (paired s))
+          go (refused n i) e f =
+              let number : t .number ≡ n = ap (λ (x : Tested). x .number) e in
+              let place : t .place ≡ i = ap (λ (x : Tested). x .place) e in
+              ap (λ (v : ℕ). testedWith v (testedOf 0 (refused (t .number) (t .place)))) f
+              ∙ ap₂ (λ (m j : ℕ). testedWith (wordAt m (fromPacket j (wordsIn s))) (testedOf 0 (refused m j))) number place
+          go (listed ps) e f = absurd (h (ap (λ (x : Tested). x .number) e))
 
       -- no packet at fault: there is a list
       list-of : t .number ≡ 0 → (ps : List Packet) × (packetsOfWords (wordsIn s) ≡ listed ps) × (t ≡ testedOf sys (listed ps))
       list-of z = go (packetsOfWords (wordsIn s)) refl found-is
         where
-          go : (o : Outcome) → packetsOfWords (wordsIn s) ≡ o → t ≡ testedIn sys (wordsIn s) o
+          go : (o : Outcome) → packetsOfWords (wordsIn s) ≡ o → t ≡ testedOf sys o
               → (ps : List Packet) × (packetsOfWords (wordsIn s) ≡ listed ps) × (t ≡ testedOf sys (listed ps))
           go (listed ps) q e = (ps, q, e)
           go (refused n i) q e =
@@ -362,20 +330,18 @@ module _ (sys : ℕ) (y : System) (s : List ℕ) (p : ℕ) (is : p ≡ countIn s
               absurd (omega arith)
 
       -- "packets and locations differ in number"
-      pub differ : t .number ≡ 0 → not (eqb (t .packets) p) ≡ true → testedOf 0 (refused 11 0) ≡ testedIn sys (wordsIn s) (listTests y s)
+      pub differ : t .number ≡ 0 → (t .packets ≡ p → ⊥) → testedOf 0 (refused 11 0) ≡ testedIn sys (wordsIn s) (listTests y s)
       unfolding wordAt
       differ z h =
           let l = list-of z in
           let n : t .packets ≡ length (l .0) = ap (λ (x : Tested). x .packets) (l .2) in
-          let d : t .packets ≡ p → ⊥ = eqb-false (t .packets) p (not-true (eqb (t .packets) p) h) in
-          rw (from-words, l .1, ne-eqb (length (l .0)) (countIn s) (λ e. d (n ∙ e ∙ sym is)))
+          rw (from-words, l .1, ne-eqb (length (l .0)) (countIn s) (λ e. h (n ∙ e ∙ sym is)))
 
       -- and the list stands
-      pub whole : t .number ≡ 0 → not (eqb (t .packets) p) ≡ false → t ≡ testedIn sys (wordsIn s) (listTests y s)
+      pub whole : t .number ≡ 0 → t .packets ≡ p → t ≡ testedIn sys (wordsIn s) (listTests y s)
       whole z h =
           let l = list-of z in
-          let d : t .packets ≡ p = eqb-true (t .packets) p (not-false (eqb (t .packets) p) h) in
-          let n : length (l .0) ≡ p = ap (λ (x : Tested). x .packets) (sym (l .2)) ∙ d in
+          let n : length (l .0) ≡ p = ap (λ (x : Tested). x .packets) (sym (l .2)) ∙ h in
           rw (from-words, l .1, eq-eqb (length (l .0)) (countIn s) (n ∙ is))
           (l .2 ∙ sym (located-figures sys (locationsIn s) (l .0) (pairs ∙ ap (λ (m : ℕ). 2 * m) (sym n))))
 

@@ -72,10 +72,10 @@ fn standing(last: Line, ls: &[u16]) -> usize
     k
 }
 
-// "Then packet by packet", "packets back to back": the first packet at fault, or the figures of all of them.
+// "Then packet by packet", "packets back to back": the first packet at fault, its word not yet looked for, or the figures of all of them.
 // "A DANC packet has as many bytes as its VANC packet has words, DC + 7." "A packet takes 2 + DC/4 packs, the quotient rounded up."
 fn packets(system: u64, ws: &[u16]) -> Tested
-    ensures { λ r. ⌜ r ≡ testedIn system (now (ws .entry)) (packetsOfWords (now (ws .entry))) ⌝ }
+    ensures { λ r. ⌜ r ≡ testedOf system (packetsOfWords (now (ws .entry))) ⌝ }
 {
     let table = packet::words();
     let mut at = 0;
@@ -83,8 +83,8 @@ fn packets(system: u64, ws: &[u16]) -> Tested
     let mut packs: u64 = 0;
     while at < ws.len() {
         let f = packet::fault_by(&table, &ws[at..]);
-        if f.number != 0 {
-            return refusal(f.number, k, f.word);
+        if f != 0 {
+            return refusal(f, k, 0);
         }
         let dc = wide(ws[at + 5] % 256);
         packs += 2 + ((dc + 3) / 4) as u64;
@@ -117,8 +117,16 @@ fn list_tests(system: u64, last: Line, s: &[u16]) -> Tested
         return refusal(6, k as u64, 0);
     }
     let first = end + 1;
-    let t = packets(system, &s[first..]);
-    if t.number == 0 && t.packets != p as u64 {
+    let words = &s[first..];
+    let t = packets(system, words);
+    if t.number != 0 {
+        return refusal(
+            t.number,
+            t.place,
+            packet::word_named(t.number, t.place, words),
+        );
+    }
+    if t.packets != p as u64 {
         return refusal(11, 0, 0);
     }
     t

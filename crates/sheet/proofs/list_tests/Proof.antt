@@ -1,7 +1,6 @@
 -- `sheet::list_tests` meets its contract, a test at a time, for every system with this last line. Assumes nothing.
 use Prim.Native.Nat.{ℕ, _+_, _*_, _≤_}
 use mathlib.Core.Path.{_∙_}
-use mathlib.Core.Logic.{⊎-elim}
 use mathlib.Core.List.{List}
 use native.Mathlib.Omega.{arith}
 use lib.ListN.{length}
@@ -68,20 +67,23 @@ returns-2 c =
 add-first : tie.Need-add-first
 add-first c = search needs
 
-mul-packets : tie.Need-mul-packets
-mul-packets c = search needs
+mul-words : tie.Need-mul-words
+mul-words c = search needs
 
-sub-packets : tie.Need-sub-packets
-sub-packets c = begins (c .before .before .before .before)
+sub-words : tie.Need-sub-words
+sub-words c = begins (c .before .before .before .before)
 
-part-packets-start : tie.Need-part-packets-start
-part-packets-start c = begins (c .before .before .before .before)
+part-words-start : tie.Need-part-words-start
+part-words-start c = begins (c .before .before .before .before)
 
-part-packets-end : tie.Need-part-packets-end
-part-packets-end c = search needs
+part-words-end : tie.Need-part-words-end
+part-words-end c = search needs
 
 packets-requires : tie.Need-packets-requires
 packets-requires c κs = search needs
+
+word-named-requires : tie.Need-word-named-requires
+word-named-requires c κs = search needs
 
 refusal-requires-3 : tie.Need-refusal-requires-3
 refusal-requires-3 c κs = search needs
@@ -89,31 +91,47 @@ refusal-requires-3 c κs = search needs
 returns-3 : tie.Need-returns-3
 unfolding limit
 returns-3 c =
-    let n : tie.Else2 = c .before .before .before .before .before .before .before in
+    let r : tie.Then3 = c .before .before in
+    let n : tie.Else2 = r .before .before .before .before in
     let b : tie.Else1 = n .before .before .before in
     let s : List ℕ = b .before .before .before .before .args .s .now in
     let p = b .before .wide .ensures .0 in
-    let t = c .before .before .before .before .before .packets .ensures in
+    let t = r .before .before .packets .ensures in
     λ y e.
     let k = n .before .standing .ensures y e in
     c .refusal3 .ensures
-    ∙ differ _ y s _ p (b .before .before .before .before .pre) (omega arith) _ k (n .if2 .left) _ t
-    (c .before .before .before .if3 .taken) (c .before .if4 .taken)
+    ∙ packet-refused _ y s _ p (b .before .before .before .before .pre) (omega arith) _ k (n .if2 .left) _ t (r .if3 .taken) _
+    (c .before .word-named .ensures)
+
+refusal-requires-4 : tie.Need-refusal-requires-4
+refusal-requires-4 c κs = search needs
 
 returns-4 : tie.Need-returns-4
 unfolding limit
 returns-4 c =
-    let n : tie.Else2 = c .before .before .before .before in
+    let r : tie.Else3 = c .before .before .before in
+    let n : tie.Else2 = r .before .before .before .before in
     let b : tie.Else1 = n .before .before .before in
     let s : List ℕ = b .before .before .before .before .args .s .now in
     let p = b .before .wide .ensures .0 in
-    let t = c .before .before .packets .ensures in
+    let t = r .before .before .packets .ensures in
     λ y e.
     let k = n .before .standing .ensures y e in
-    ⊎-elim
-    (λ w. whole _ y s _ p (b .before .before .before .before .pre) (omega arith) _ k (n .if2 .left) _ t (w .0 .taken) (w .2 .left))
-    (λ w. packet-refused _ y s _ p (b .before .before .before .before .pre) (omega arith) _ k (n .if2 .left) _ t (w .left))
-    (c .if3 .came)
+    c .refusal4 .ensures
+    ∙ differ _ y s _ p (b .before .before .before .before .pre) (omega arith) _ k (n .if2 .left) _ t (r .if3 .left) (c .before .if4 .taken)
+
+returns-5 : tie.Need-returns-5
+unfolding limit
+returns-5 c =
+    let r : tie.Else3 = c .before .before in
+    let n : tie.Else2 = r .before .before .before .before in
+    let b : tie.Else1 = n .before .before .before in
+    let s : List ℕ = b .before .before .before .before .args .s .now in
+    let p = b .before .wide .ensures .0 in
+    let t = r .before .before .packets .ensures in
+    λ y e.
+    let k = n .before .standing .ensures y e in
+    whole _ y s _ p (b .before .before .before .before .pre) (omega arith) _ k (n .if2 .left) _ t (r .if3 .left) (c .if4 .left)
 
 pub list-tests-spec : {M : Type 1} → statement M
 list-tests-spec =
@@ -132,11 +150,14 @@ list-tests-spec =
     refusal-requires-2
     returns-2
     add-first
-    mul-packets
-    sub-packets
-    part-packets-start
-    part-packets-end
+    mul-words
+    sub-words
+    part-words-start
+    part-words-end
     packets-requires
+    word-named-requires
     refusal-requires-3
     returns-3
-    returns-4)
+    refusal-requires-4
+    returns-4
+    returns-5)

@@ -1,21 +1,20 @@
 -- `sheet::packets` meets its contract. What the words from here on give, with the packets and figures so far, is what all of them give.
 -- A packet has at least 7 words and more words than packs, so no sum wraps. The measure is what is left of the words. Assumes nothing.
 use Prim.Native.Nat.{ℕ, _+_, _-_, _%_, _≤_}
-use mathlib.Core.Path.{_≡_, refl, _∙_}
+use mathlib.Core.Path.{_≡_, _∙_}
 use mathlib.Core.List.{List}
 use native.Mathlib.Omega.{arith}
 use lib.ListN.{length, getD, take, drop}
 use borrow.Author.Needs.{needs}
-use Rattle.rules.specs.Laying.{faultOf, fromPacket, packetsOfWords}
+use Rattle.rules.specs.Laying.{wordsFault, packetsOfWords}
 use Rattle.rules.specs.Lister.{testedOf}
-use Rattle.sheet.proofs.Laws.{wholeFrom, figures-told, at-first, at-end, at-fault, all-there, from-there, at-next}
+use Rattle.sheet.proofs.Laws.{wholeFrom, at-first, at-end, at-fault, all-there, at-next}
 use Rattle.sheet.proofs.packets.Statement.{statement}
 use Rattle.sheet.proofs.packets.Tie as tie
 
 abbrev Inv-loop : tie.InvT-loop
 Inv-loop system ws table at₀ k₀ packs₀ at k packs =
     (at ≤ length ws) × (k ≤ at) × (packs ≤ at) × (wholeFrom system k at packs ws ≡ testedOf system (packetsOfWords ws))
-    × (fromPacket k ws ≡ drop at ws)
 
 abbrev μ-loop : tie.MeasureT-loop
 μ-loop system ws table at₀ k₀ packs₀ at k packs = length ws - at
@@ -28,25 +27,25 @@ module _ (c : tie.After-fault-by Inv-loop μ-loop) where
   abbrev place : ℕ
   place = c .before .before .before .before .loop .at
 
-  tested : c .fault-by .result ≡ faultOf (take (length given - place) (drop place given))
+  tested : c .fault-by .result ≡ wordsFault (take (length given - place) (drop place given))
   tested = c .fault-by .ensures (c .before .before .before .before .before .words .ensures)
 
 -- a packet that passed its test has all its words
 module _ (c : tie.Else1 Inv-loop μ-loop) where
   abbrev ws : List ℕ
-  ws = given (c .before .before)
+  ws = given (c .before)
 
   abbrev at : ℕ
-  at = place (c .before .before)
+  at = place (c .before)
 
   there : at + (getD ws (at + 5) 0 % 256 + 7) ≤ length ws
-  there = all-there at ws (c .before .before .before .before .before .loop-test .taken) _ (tested (c .before .before)) (c .if1 .left)
+  there = all-there at ws (c .before .before .before .before .loop-test .taken) _ (tested (c .before)) (c .if1 .left)
 
 words-requires : tie.Need-words-requires Inv-loop μ-loop
 words-requires c κs = search needs
 
 loop-holds : tie.Need-loop-holds Inv-loop μ-loop
-loop-holds c = (search needs, search needs, search needs, at-first _ _, refl)
+loop-holds c = (search needs, search needs, search needs, at-first _ _)
 
 mul-fault-by : tie.Need-mul-fault-by Inv-loop μ-loop
 mul-fault-by c = search needs
@@ -68,13 +67,11 @@ refusal-requires c κs = search needs
 
 returns : tie.Need-returns Inv-loop μ-loop
 returns c =
-    let t : tie.After-fault-by Inv-loop μ-loop = c .before .before .before in
-    let start = t .before .before .before .before .before .before .before in
-    let l = t .before .before .before .before .loop in
-    let i = t .before .before .before .loop-test .taken in
-    let ws = start .args .ws .now in
-    c .refusal .ensures
-    ∙ at-fault _ ws i _ (tested t) (c .before .if1 .taken) (start .args .system) _ (l .packs) (packetsOfWords ws) (l .inv .3) (l .inv .4)
+    let start = c .before .before .before .before .before .before .before .before .before in
+    let l = c .before .before .before .before .before .before .loop in
+    let i = c .before .before .before .before .before .loop-test .taken in
+    let o = at-fault _ (start .args .ws .now) i _ (tested (c .before .before)) (c .before .if1 .taken) (start .args .system) _ (l .packs) in
+    c .refusal .ensures ∙ o ∙ l .inv .3
 
 add-wide : tie.Need-add-wide Inv-loop μ-loop
 add-wide c = search needs
@@ -112,20 +109,17 @@ loop-less c = search needs
 loop-again : tie.Need-loop-again Inv-loop μ-loop
 loop-again c =
     let b : tie.Else1 Inv-loop μ-loop = c .before .before in
-    let in-turn = b .before .before .before .before .before in
+    let in-turn = b .before .before .before .before in
     let a = in-turn .before .before .before .before .args in
     let l = in-turn .before .loop in
-    let f = tested (b .before .before) in
+    let f = tested (b .before) in
     let d = c .wide .ensures .0 in
     let o = at-next _ (ws b) (in-turn .loop-test .taken) _ f (b .if1 .left) _ d (a .system) (l .k) (l .packs) in
     let m = there b in
-    let g = from-there _ (ws b) (in-turn .loop-test .taken) _ f (b .if1 .left) _ d (l .k) (l .inv .4) in
-    (omega arith, omega arith, omega arith, o ∙ l .inv .3, g)
+    (omega arith, omega arith, omega arith, o ∙ l .inv .3)
 
 returns-2 : tie.Need-returns-2 Inv-loop μ-loop
-returns-2 c =
-    let ws = c .before .before .before .before .args .ws .now in
-    figures-told _ _ _ _ ws (packetsOfWords ws) (at-end _ _ _ _ ws (c .loop-test .left) ∙ c .before .loop .inv .3)
+returns-2 c = at-end _ _ _ _ (c .before .before .before .before .args .ws .now) (c .loop-test .left) ∙ c .before .loop .inv .3
 
 pub packets-spec : {M : Type 1} → statement M
 packets-spec =
