@@ -1,17 +1,17 @@
 -- What the proofs of the functions rest on.
 --
--- In order: the parity of a byte; the table of words; a pass over words; a pass over a part of them; the parts of the sum that CS holds; the tests
--- that are left; the word that a number names; the packets before the one that is named.
+-- In order: the parity of a byte; the table of words; a pass over words; a pass over a part of them; the parts of the sum that CS holds; the word
+-- that a number names; the packets before the one that is named.
 -- Assumes nothing.
 use Prim.Native.Nat.{ℕ, zero, suc, _+_, _-_, _*_, _/_, _%_, _≤_, _<_}
 use mathlib.Core.Path.{_≡_, refl, ap, sym, _∙_, subst}
-use mathlib.Core.Bool.{Bool, true, false, cond, not, _&&_}
+use mathlib.Core.Bool.{Bool, true, false, _&&_}
 use mathlib.Core.List.{List, [], _∷_, _++_}
 use native.Mathlib.Omega.{arith}
 use native.Mathlib.Nat.{add-comm, add-zero, zero-add, le-refl}
 use native.Mathlib.Numerals.{add-one}
 use lib.Bits.{bitXor}
-use lib.Dec.{eqb, ltb}
+use lib.Dec.{eqb}
 use lib.ListN.{length, getD, set, take, drop, drop-of-length-le, take-append-drop}
 use lib.Seq.{drop-cons, take-add, drop-drop, take-all}
 use borrow.Author.Tests.{eq-eqb, ne-eqb, eqb-true}
@@ -19,8 +19,7 @@ use Rattle.rules.specs.Packet.{parity, word, sum9, check}
 use Rattle.rules.specs.Laying.{isWord, areWords, dcIn, wordsFault, wordsBefore, flagWord, wordAt, fromPacket, typeOf, judged}
 use Rattle.rules.proofs.Basics.{both, rest-part, copy-turn, copy-full}
 use Rattle.rules.proofs.Words.{words-append, fault-long}
-use Rattle.rules.specs.declared.Judged.{Judged}
-use Rattle.packet.specs.Run.{passOf, wordsFrom, wordTable}
+use Rattle.packet.specs.Run.{passOf, wordsFrom, wordTable, SizeOf}
 use Rattle.packet.specs.declared.Pass.{Pass}
 
 -- ---- the parity of a byte
@@ -152,26 +151,6 @@ pub check-parts : (d h u : ℕ) (s : List ℕ) → h ≡ sum9 (take 3 (drop 3 s)
 unfolding check
 check-parts d h u s e f = rw (e, f, sum9-parts d s)
 
--- ---- the tests that are left: after the user words, after 9, after DID, SDID and DC, after the flag
-
-abbrev pub lastTest : List ℕ → ℕ
-lastTest s = cond (not (eqb (getD s (dcIn s + 6) 0) (check (take (dcIn s + 3) (drop 3 s))))) 10 0
-
-abbrev pub userTests : List ℕ → ℕ
-userTests s = cond (not (areWords (take (dcIn s) (drop 6 s)))) 8 (lastTest s)
-
-abbrev pub sizeTests : List ℕ → ℕ
-sizeTests s = cond (ltb (length s) (dcIn s + 7)) 9 (userTests s)
-
-abbrev pub headTests : List ℕ → ℕ
-headTests s = cond (not (areWords (take 3 (drop 3 s)))) 8 (sizeTests s)
-
--- where DID, SDID and DC are right, all from DID to the last user word are when the user words are
-pub words-parts : (d : ℕ) (s : List ℕ) → areWords (take 3 (drop 3 s)) ≡ true → areWords (take (d + 3) (drop 3 s)) ≡ areWords (take d (drop 6 s))
-words-parts d s e =
-    rw (add-comm d 3, take-add 3 d (drop 3 s), drop-drop 3 3 s)
-    (words-append (take 3 (drop 3 s)) (take d (drop 6 s)) ∙ ap (λ (b : Bool). b && areWords (take d (drop 6 s))) e)
-
 -- ---- the word that a number names
 
 -- the flag, a word at a time: the first that is missing or wrong, or all three are right
@@ -214,7 +193,12 @@ module _ (i w : ℕ) (ws : List ℕ) (h : i < length ws) (e : w ≡ word (getD w
 pub before-end : (i : ℕ) (ws : List ℕ) → length ws ≤ i → i ≡ i + wordsBefore (drop i ws)
 before-end i ws h = rw (drop-of-length-le ws h) (omega arith)
 
--- one packet alone, refused or sound
+-- one packet alone: no words, refused or sound
+pub one-none : (s : List ℕ) → length s ≡ 0 → record { number = 7; word = 0; kind = 0 } ≡ judged s
+unfolding judged wordsFault wordAt flagWord
+one-none [] h = refl
+one-none (w ∷ s) h = absurd (omega arith)
+
 module _ (s : List ℕ) (n : ℕ) (e : n ≡ wordsFault s) where
   pub one-refused : (w : ℕ) → (n ≡ 0 → ⊥) → w ≡ wordAt n s → record { number = n; word = w; kind = 0 } ≡ judged s
   unfolding judged
@@ -231,10 +215,18 @@ module _ (s : List ℕ) (n : ℕ) (e : n ≡ wordsFault s) where
 -- ---- the packets before the one that is named
 
 -- how many words a packet takes, where there are fewer and where there are as many
-pub size-short : (s : List ℕ) (d : ℕ) → d ≡ dcIn s → length s < d + 7 → drop (length s) s ≡ drop (dcIn s + 7) s
+pub size-short : (s : List ℕ) (d : ℕ) → d ≡ dcIn s → length s < d + 7 → SizeOf s (length s)
 size-short s d e h =
     let l : length s ≤ dcIn s + 7 = omega arith in
-    drop-of-length-le s (le-refl (length s)) ∙ sym (drop-of-length-le s l)
+    record {
+      within = le-refl (length s);
+      front = take-all (length s) s (le-refl (length s)) ∙ sym (take-all (dcIn s + 7) s l);
+      behind = drop-of-length-le s (le-refl (length s)) ∙ sym (drop-of-length-le s l);
+    }
+
+pub size-whole : (s : List ℕ) (d : ℕ) → d ≡ dcIn s → d + 7 ≤ length s → SizeOf s (d + 7)
+size-whole s d e h =
+    record { within = h; front = ap (λ (n : ℕ). take (n + 7) s) e; behind = ap (λ (n : ℕ). drop (n + 7) s) e }
 
 -- the words that are lent from `at` on, and those behind one packet more
 pub behind-next : (ws : List ℕ) (at n left place : ℕ) → 0 < left

@@ -1,2 +1,3 @@
 -- What the proofs of the functions rest on.
 pub mod Laws
+pub mod Row

@@ -1,11 +1,12 @@
 -- What a pass over the words of a packet finds, in the terms of the rules.
 -- Assumes nothing.
-use Prim.Native.Nat.{ℕ, zero, suc, _%_}
+use Prim.Native.Nat.{ℕ, zero, suc, _+_, _%_, _≤_}
 use mathlib.Core.Path.{_≡_}
 use mathlib.Core.Bool.{true}
 use mathlib.Core.List.{List, [], _∷_}
+use lib.ListN.{length, take, drop}
 use Rattle.rules.specs.Packet.{word, sum9}
-use Rattle.rules.specs.Laying.{areWords}
+use Rattle.rules.specs.Laying.{areWords, dcIn}
 use Rattle.packet.specs.declared.Pass.{Pass}
 use Rattle.packet.specs.declared.Run.{Run}
 
@@ -30,3 +31,9 @@ wordTable = wordsFrom 0 256
 pub record Passed (table ws : List ℕ) (r : Pass) : Type 0 where
   pub words : table ≡ wordTable → r .words ≡ areWords ws
   pub sum : r .words ≡ true → r .sum ≡ sum9 ws
+
+-- how many words the packet in front takes, DC + 7, as far as there are so many: it is these, and the others stand behind it
+pub record SizeOf (s : List ℕ) (n : ℕ) : Type 0 where
+  pub within : n ≤ length s
+  pub front : take n s ≡ take (dcIn s + 7) s
+  pub behind : drop n s ≡ drop (dcIn s + 7) s

@@ -4,10 +4,13 @@ ghost use mathlib.Core.Path.{_≡_};
 ghost use Prim.Native.Nat.{_+_, _-_, _*_, _/_, _%_, _≤_, _<_};
 ghost use lib.ListN.{length, drop};
 ghost use Rattle.rules.specs.Packet.{word, check};
-ghost use Rattle.rules.specs.Laying.{wordsFault, dcIn, wordsBefore, flagWord, wordAt, fromPacket, typeOf};
+ghost use Rattle.rules.specs.Numbers.{refused};
+ghost use Rattle.rules.specs.Laying.{wordsFault, packetsOfWords, dcIn, wordsBefore, flagWord, wordAt, fromPacket, typeOf};
+ghost use Rattle.rules.specs.Lister.{testedOf};
 ghost use Rattle.rules.specs.Demands.{Judges};
-ghost use Rattle.packet.specs.Run.{passOf, runOf, wordTable, Passed};
+ghost use Rattle.packet.specs.Run.{passOf, runOf, wordTable, Passed, SizeOf};
 use rules::Judged;
+use rules::Tested;
 
 // Bit 8 makes the count of ones even, and bit 9 is its inverse (SMPTE 291).
 // The eight bits are folded onto one, without a table or a branch, since this is done for every word.
@@ -109,7 +112,7 @@ pub fn check_of(ws: &[u16]) -> u16
 }
 
 // The words of all bytes, to look a few words up in: that takes a third of the instructions of computing each.
-pub fn words() -> [u16; 256]
+fn words() -> [u16; 256]
     ensures { λ r. ⌜ r ≡ wordTable ⌝ }
 {
     let mut table = [0u16; 256];
@@ -173,10 +176,25 @@ fn pass_by(table: &[u16; 256], ws: &[u16]) -> Pass
     pass_of(ws)
 }
 
+// "On refusal the later figures are 0".
+fn refusal(number: u64, place: u64) -> Tested
+    ensures { λ r. ⌜ r ≡ testedOf 0 (refused number place) ⌝ }
+{
+    Tested {
+        number,
+        place,
+        word: 0,
+        system: 0,
+        packets: 0,
+        bytes: 0,
+        packs: 0,
+    }
+}
+
 // The number of the first fault of the packet that the words begin with, 0 for none, in document 01's order.
 // The whole sums of the two passes are added for CS, so that no word is summed twice. The table is lent, so that a caller with many
 // packets makes it once; with any other table the answer says nothing.
-pub fn fault_by(table: &[u16; 256], ws: &[u16]) -> u64
+fn fault_by(table: &[u16; 256], ws: &[u16]) -> u64
     ensures { λ r. ⌜ (now (table .entry) ≡ wordTable → r ≡ wordsFault (now (ws .entry))) ⌝ }
 {
     if ws.len() < 7 || ws[0] != 0x000 || ws[1] != 0x3FF || ws[2] != 0x3FF {
@@ -198,6 +216,36 @@ pub fn fault_by(table: &[u16; 256], ws: &[u16]) -> u64
         return 10;
     }
     0
+}
+
+// "Then packet by packet", "packets back to back": the first packet at fault, its word not yet looked for, or the figures of all of them.
+// "A DANC packet has as many bytes as its VANC packet has words, DC + 7." "A packet takes 2 + DC/4 packs, the quotient rounded up."
+pub fn packets(system: u64, ws: &[u16]) -> Tested
+    ensures { λ r. ⌜ r ≡ testedOf system (packetsOfWords (now (ws .entry))) ⌝ }
+{
+    let table = words();
+    let mut at = 0;
+    let mut k: u64 = 0;
+    let mut packs: u64 = 0;
+    while at < ws.len() {
+        let f = fault_by(&table, &ws[at..]);
+        if f != 0 {
+            return refusal(f, k);
+        }
+        let dc = low_byte(ws[at + 5]);
+        packs += 2 + ((dc + 3) / 4) as u64;
+        at += dc + 7;
+        k += 1;
+    }
+    Tested {
+        number: 0,
+        place: 0,
+        word: 0,
+        system,
+        packets: k,
+        bytes: at as u64,
+        packs,
+    }
 }
 
 // "the first wrong flag word, else the first missing word" (document 02, A2).
@@ -256,7 +304,7 @@ fn word_at(number: u64, ws: &[u16]) -> u64
 
 // How many words the packet in front takes, DC + 7, as far as there are so many.
 fn size_of(ws: &[u16]) -> usize
-    ensures { λ r. ⌜ (r ≤ length (now (ws .entry))) × (drop r (now (ws .entry)) ≡ drop (dcIn (now (ws .entry)) + 7) (now (ws .entry))) ⌝ }
+    ensures { λ r. ⌜ SizeOf (now (ws .entry)) r ⌝ }
 {
     let n = dc_of(ws) + 7;
     if ws.len() < n {
@@ -289,40 +337,23 @@ fn type_of(did: u16) -> u64
     1
 }
 
-// The number of the first fault of one packet alone. Without a table, which 256 words have to be computed for; and apart from `fault_by`, which is
-// made part of the loop over a sheet's packets as long as no other function calls it.
-fn number_of(ws: &[u16]) -> u64
-    ensures { λ r. ⌜ r ≡ wordsFault (now (ws .entry)) ⌝ }
-{
-    if ws.len() < 7 || ws[0] != 0x000 || ws[1] != 0x3FF || ws[2] != 0x3FF {
-        return 7;
-    }
-    if !run_of(&ws[3..6]).words {
-        return 8;
-    }
-    let end = low_byte(ws[5]) + 6;
-    if ws.len() <= end {
-        return 9;
-    }
-    let all = run_of(&ws[3..end]);
-    if !all.words {
-        return 8;
-    }
-    if ws[end] != check_word(all.sum) {
-        return 10;
-    }
-    0
-}
-
-// The test of one packet alone, which also says its type (document 02, A2).
+// The test of one packet alone, which also says its type (document 02, A2). What stands behind the packet is not looked at.
 pub fn fault(ws: &[u16]) -> Judged
     ensures { λ r. ⌜ Judges (now (ws .entry)) r ⌝ }
 {
-    let number = number_of(ws);
-    if number != 0 {
+    if ws.len() == 0 {
         return Judged {
-            number,
-            word: word_at(number, ws),
+            number: 7,
+            word: 0,
+            kind: 0,
+        };
+    }
+    let n = size_of(ws);
+    let t = packets(0, &ws[..n]);
+    if t.number != 0 {
+        return Judged {
+            number: t.number,
+            word: word_at(t.number, ws),
             kind: 0,
         };
     }

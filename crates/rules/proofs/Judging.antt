@@ -2,17 +2,16 @@
 --
 -- In order: the words before the first wrong one; a packet that is refused with 8; a packet that passes; the contract (`judges`).
 -- Assumes nothing.
-use Prim.Native.Nat.{ℕ, zero, suc, _+_, _-_, _≤_, _<_}
+use Prim.Native.Nat.{ℕ, zero, suc, _+_, _-_, _<_}
 use mathlib.Core.Path.{_≡_, refl, sym, ap, _∙_}
 use mathlib.Core.Bool.{Bool, true, false, cond, not, _&&_, _||_}
-use mathlib.Core.List.{List, [], _∷_, _++_}
+use mathlib.Core.List.{List, [], _∷_}
 use native.Mathlib.Omega.{arith}
 use lib.Dec.{eqb, ltb}
 use lib.ListN.{length, getD, take, drop}
 use lib.Seq.{take-add, drop-drop, getD-drop}
-use Rattle.rules.specs.Systems.{System}
-use Rattle.rules.specs.Packet.{Packet, check, coded, words, Sound}
-use Rattle.rules.specs.Laying.{isWord, areWords, flagged, low, dcIn, wordsFault, wordRow, wordsBefore, wordAt, typeOf, judged}
+use Rattle.rules.specs.Packet.{check, coded, words}
+use Rattle.rules.specs.Laying.{isWord, areWords, flagged, dcIn, wordsFault, wordRow, wordsBefore, wordAt, judged}
 use Rattle.rules.specs.Demands.{Judges}
 use Rattle.rules.specs.declared.Judged.{Judged}
 use Rattle.rules.proofs.Basics.{never}

@@ -1,46 +1,30 @@
 -- What each way through the code says of the rules, over plain values: the proofs of the functions hand these laws what the code knows.
 --
--- In order: the shape (2); locations (6); packets (7 to 10); the list (5, 6, 11); the sheet (2, 3).
+-- In order: the shape (2); locations (6); the list (5, 6, 7 to 10, 11); the sheet (2, 3).
 -- Assumes nothing.
-use Prim.Native.Nat.{ℕ, zero, suc, _+_, _-_, _*_, _/_, _%_, _≤_, _<_}
+use Prim.Native.Nat.{ℕ, zero, suc, _+_, _-_, _*_, _≤_, _<_}
 use mathlib.Core.Path.{_≡_, refl, sym, ap, ap₂, _∙_}
-use mathlib.Core.Bool.{Bool, true, false, cond, not, _&&_, _||_}
-use mathlib.Core.List.{List, [], _∷_, map}
-use native.Mathlib.Nat.{zero-add, add-zero, sub-zero}
+use mathlib.Core.Bool.{Bool, true, false, cond, not, _&&_}
+use mathlib.Core.List.{List, [], _∷_}
+use native.Mathlib.Nat.{zero-add}
 use native.Mathlib.Numerals.{add-one}
 use native.Mathlib.Omega.{arith}
 use lib.Dec.{eqb, ltb, leb, eqb·suc-suc, eqb·zero-suc}
-use lib.ListN.{length, getD, take, drop, length-drop, length-map, drop-of-length-le}
-use lib.Seq.{length-take-le, drop-cons, drop-drop, getD-drop}
-use borrow.Author.Tests.{ltb-false, leb-true, eqb-true, eqb-false, not-true, not-false, lt-ltb, le-ltb, le-leb, lt-leb, eq-eqb, ne-eqb}
-use Rattle.rules.specs.Base.{sum}
+use lib.ListN.{length, getD, take, drop, length-drop}
+use lib.Seq.{length-take-le, drop-cons}
+use borrow.Author.Tests.{leb-true, not-true, not-false, lt-ltb, le-ltb, le-leb, lt-leb, eq-eqb, ne-eqb}
 use Rattle.rules.specs.Systems.{System, system, stands}
-use Rattle.rules.specs.Packet.{Packet, check}
-use Rattle.rules.specs.Danc.{bytesOf, stringBytes}
+use Rattle.rules.specs.Packet.{Packet}
+use Rattle.rules.specs.Danc.{bytesOf}
 use Rattle.rules.specs.Packing1.{packsOf}
 use Rattle.rules.specs.Sheet.{limit, systemIn, countIn, locationsIn, wordCountIn, wordsIn}
-use Rattle.rules.specs.Numbers.{Outcome, listed, refused, unless, andThen, also, packetsIn}
-use Rattle.rules.specs.Laying.{
-  areWords,
-  flagged,
-  low,
-  dcIn,
-  wordsFault,
-  wordAt,
-  fromPacket,
-  packetOfWords,
-  wordRow,
-  packetsOfWords,
-  shaped,
-  locationsStand,
-  located,
-  listTests,
-  sheetTests,
-}
+use Rattle.rules.specs.Numbers.{Outcome, listed, refused, unless, andThen}
+use Rattle.rules.specs.Laying.{wordAt, fromPacket, packetsOfWords, shaped, locationsStand, located, listTests, sheetTests}
 use Rattle.rules.specs.Lister.{testedOf, testedWith, testedIn, tested}
 use Rattle.rules.specs.declared.Tested.{Tested}
 use Rattle.rules.proofs.Basics.{both, second-false, rest-part}
-use Rattle.rules.proofs.Words.{fault-long, words-enough, words-refused}
+use Rattle.rules.proofs.Words.{words-refused}
+use Rattle.packet.proofs.Row.{counted}
 use Rattle.frame.specs.Systems.{figuresOf}
 use Rattle.frame.specs.declared.Figures.{Figures}
 use Rattle.frame.proofs.Laws.{last-is, is-unknown, is-known}
@@ -127,115 +111,6 @@ stand-end y k ls h = let l = length-drop (2 * k) ls in go (drop (2 * k) ls) (ome
     go [] h = omega arith
     go (x ∷ []) h = omega arith
     go (x ∷ z ∷ t) h = absurd (omega arith)
-
--- ---- packets
-
-abbrev pub counted : ℕ → ℕ → ℕ → ℕ → Tested
-counted sys k bytes packs = record { number = 0; place = 0; word = 0; system = sys; packets = k; bytes = bytes; packs = packs }
-
--- the figures of some packets, and those of a list behind them
-abbrev pub addTo : ℕ → ℕ → ℕ → ℕ → Outcome → Tested
-addTo sys k at packs (listed ps) = counted sys (k + length ps) (at + stringBytes ps) (packs + sum (map packsOf ps))
-addTo sys k at packs (refused n i) = testedOf sys (refused n i)
-
--- the words from a place on, with the packets in front of them: what is left of the whole
-abbrev pub wholeFrom : ℕ → ℕ → ℕ → ℕ → List ℕ → Tested
-wholeFrom sys k at packs ws = addTo sys k at packs (packetsIn wordRow (length ws - at) k (drop at ws))
-
-add-nothing : (sys : ℕ) (o : Outcome) → addTo sys 0 0 0 o ≡ testedOf sys o
-add-nothing sys (listed ps) = simp zero-add
-add-nothing sys (refused n i) = refl
-
-pub at-first : (sys : ℕ) (ws : List ℕ) → wholeFrom sys 0 0 0 ws ≡ testedOf sys (packetsOfWords ws)
-unfolding packetsOfWords
-at-first sys ws = rw (sub-zero (length ws)) (add-nothing sys (packetsOfWords ws))
-
-add-also : (sys k at packs : ℕ) (p : Packet) (o : Outcome)
-    → addTo sys k at packs (also p o) ≡ addTo sys (k + 1) (at + bytesOf p) (packs + packsOf p) o
-add-also sys k at packs p (refused n i) = refl
-add-also sys k at packs p (listed ps) =
-    let a : k + suc (length ps) ≡ k + 1 + length ps = omega arith in
-    let b : at + (bytesOf p + stringBytes ps) ≡ at + bytesOf p + stringBytes ps = omega arith in
-    let c : packs + (packsOf p + sum (map packsOf ps)) ≡ packs + packsOf p + sum (map packsOf ps) = omega arith in
-    λ i. counted sys (a i) (b i) (c i)
-
--- the packet at the front of some words, and those after it
-front : (left i : ℕ) (s : List ℕ) → 0 < length s
-    → packetsIn wordRow (suc left) i s
-    ≡ cond (eqb (wordsFault s) 0) (also (packetOfWords s) (packetsIn wordRow left (suc i) (drop (dcIn s + 7) s))) (refused (wordsFault s) i)
-unfolding wordRow
-front left i [] h = absurd (omega arith)
-front left i (w ∷ s) h = refl
-
-front-fault : (left i : ℕ) (s : List ℕ) → 0 < length s → 0 < left → (wordsFault s ≡ 0 → ⊥)
-    → packetsIn wordRow left i s ≡ refused (wordsFault s) i
-front-fault zero i s h l f = absurd (omega arith)
-front-fault (suc left) i s h l f = front left i s h ∙ rw (ne-eqb (wordsFault s) 0 f)
-
-front-fine : (left i : ℕ) (s : List ℕ) → 0 < length s → length s ≤ left → wordsFault s ≡ 0
-    → packetsIn wordRow left i s ≡ also (packetOfWords s) (packetsIn wordRow (left - (dcIn s + 7)) (i + 1) (drop (dcIn s + 7) s))
-front-fine zero i s h l f = absurd (omega arith)
-front-fine (suc left) i s h l f =
-    let k = length-drop (dcIn s + 7) s in
-    let z = fault-long s f in
-    front left i s h
-    ∙ rw (
-      f,
-      add-one i,
-      words-enough left (suc left - (dcIn s + 7)) (suc i) (drop (dcIn s + 7) s) (omega arith) (omega arith),
-    )
-
--- no packet is left
-pub at-end : (sys k at packs : ℕ) (ws : List ℕ) → length ws ≤ at → counted sys k at packs ≡ wholeFrom sys k at packs ws
-unfolding wordRow
-at-end sys k at packs ws h =
-    let z : length ws - at ≡ 0 = omega arith in
-    rw (z, drop-of-length-le ws h) (simp add-zero)
-
--- a place, and what the test of the packet there gave
-module _ (at : ℕ) (ws : List ℕ) (h : at < length ws) (f : ℕ) (e : f ≡ wordsFault (take (length ws - at) (drop at ws))) where
-  fault-is : f ≡ wordsFault (drop at ws)
-  fault-is = e ∙ ap wordsFault (rest-part at ws)
-
-  -- "the first at fault is named"
-  pub at-fault : (f ≡ 0 → ⊥) → (sys k packs : ℕ) → testedOf 0 (refused f k) ≡ wholeFrom sys k at packs ws
-  at-fault g sys k packs =
-      let l = length-drop at ws in
-      let o : packetsIn wordRow (length ws - at) k (drop at ws) ≡ refused (wordsFault (drop at ws)) k =
-      front-fault (length ws - at) k (drop at ws) (omega arith) (omega arith) (λ z. g (fault-is ∙ z)) in
-      sym (ap (addTo sys k at packs) (o ∙ ap (λ (n : ℕ). refused n k) (sym fault-is)))
-
-  module _ (z : f ≡ 0) where
-    fine : wordsFault (drop at ws) ≡ 0
-    fine = sym fault-is ∙ z
-
-    dc-is : dcIn (drop at ws) ≡ getD ws (at + 5) 0 % 256
-    dc-is = ap low (getD-drop at ws 5 0)
-
-    -- all its words are there
-    pub all-there : at + (getD ws (at + 5) 0 % 256 + 7) ≤ length ws
-    all-there = let d = dc-is in let l = length-drop at ws in let m = fault-long (drop at ws) fine in omega arith
-
-    -- one packet more
-    pub at-next : (dc : ℕ) → dc ≡ getD ws (at + 5) 0 % 256 → (sys k packs : ℕ)
-        → wholeFrom sys (k + 1) (at + (dc + 7)) (packs + (2 + (dc + 3) / 4)) ws ≡ wholeFrom sys k at packs ws
-    at-next dc e sys k packs =
-        let s : List ℕ = drop at ws in
-        let l : length s ≡ length ws - at = length-drop at ws in
-        let d : dcIn s ≡ dc = dc-is ∙ sym e in
-        let long : dcIn s + 7 ≤ length s = fault-long s fine in
-        let m : length (take (dcIn s) (drop 6 s)) ≡ dcIn s = length-take-le (dcIn s) (drop 6 s) (let n = length-drop 6 s in omega arith) in
-        let u : length (packetOfWords s .user) ≡ dc = length-map (take (dcIn s) (drop 6 s)) low ∙ m ∙ d in
-        let a : at + bytesOf (packetOfWords s) ≡ at + (dc + 7) = ap (λ (n : ℕ). at + (n + 7)) u in
-        let b : packs + packsOf (packetOfWords s) ≡ packs + (2 + (dc + 3) / 4) =
-        ap (λ (n : ℕ). packs + (1 + (1 + (n + 3) / 4))) u ∙ (omega arith) in
-        let n : length ws - at - (dcIn s + 7) ≡ length ws - (at + (dc + 7)) = omega arith in
-        let t : drop (dcIn s + 7) s ≡ drop (at + (dc + 7)) ws =
-        drop-drop (dcIn s + 7) at ws ∙ ap (λ (m : ℕ). drop (at + (m + 7)) ws) d in
-        sym
-        (ap (addTo sys k at packs) (front-fine (length ws - at) k s (omega arith) (omega arith) fine)
-        ∙ add-also sys k at packs (packetOfWords s) (packetsIn wordRow (length ws - at - (dcIn s + 7)) (k + 1) (drop (dcIn s + 7) s))
-        ∙ (λ i. addTo sys (k + 1) (a i) (b i) (packetsIn wordRow (n i) (k + 1) (t i))))
 
 -- ---- the list
 

@@ -7,7 +7,7 @@ ghost use Prim.Native.Nat.{_<_};
 ghost use Rattle.rules.specs.Systems.{System};
 ghost use Rattle.rules.specs.Sheet.{wordsIn};
 ghost use Rattle.rules.specs.Numbers.{refused};
-ghost use Rattle.rules.specs.Laying.{packetsOfWords, shaped, listTests};
+ghost use Rattle.rules.specs.Laying.{shaped, listTests};
 ghost use Rattle.rules.specs.Lister.{testedOf, testedWith, testedIn};
 ghost use Rattle.rules.specs.Demands.{Tests};
 ghost use Rattle.sheet.specs.Standing.{standingIn};
@@ -72,36 +72,6 @@ fn standing(last: Line, ls: &[u16]) -> usize
     k
 }
 
-// "Then packet by packet", "packets back to back": the first packet at fault, its word not yet looked for, or the figures of all of them.
-// "A DANC packet has as many bytes as its VANC packet has words, DC + 7." "A packet takes 2 + DC/4 packs, the quotient rounded up."
-fn packets(system: u64, ws: &[u16]) -> Tested
-    ensures { λ r. ⌜ r ≡ testedOf system (packetsOfWords (now (ws .entry))) ⌝ }
-{
-    let table = packet::words();
-    let mut at = 0;
-    let mut k: u64 = 0;
-    let mut packs: u64 = 0;
-    while at < ws.len() {
-        let f = packet::fault_by(&table, &ws[at..]);
-        if f != 0 {
-            return refusal(f, k, 0);
-        }
-        let dc = wide(ws[at + 5] % 256);
-        packs += 2 + ((dc + 3) / 4) as u64;
-        at += dc + 7;
-        k += 1;
-    }
-    Tested {
-        number: 0,
-        place: 0,
-        word: 0,
-        system,
-        packets: k,
-        bytes: at as u64,
-        packs,
-    }
-}
-
 // The tests of the list: "5 | laying: P over [1,275]", 6, 7 to 10 packet by packet, "11 | packets and locations differ in number".
 fn list_tests(system: u64, last: Line, s: &[u16]) -> Tested
     requires { ⌜ shaped (now s) ≡ true ⌝ }
@@ -118,7 +88,7 @@ fn list_tests(system: u64, last: Line, s: &[u16]) -> Tested
     }
     let first = end + 1;
     let words = &s[first..];
-    let t = packets(system, words);
+    let t = packet::packets(system, words);
     if t.number != 0 {
         return refusal(
             t.number,

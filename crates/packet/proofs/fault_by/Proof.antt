@@ -3,19 +3,33 @@
 use Prim.Native.Nat.{ℕ, _+_, _-_}
 use mathlib.Core.Path.{_≡_, sym, _∙_, subst}
 use mathlib.Core.Logic.{⊎-elim}
-use mathlib.Core.Bool.{true, false, not}
+use mathlib.Core.Bool.{true, false, cond, not}
 use mathlib.Core.List.{List}
 use native.Mathlib.Omega.{arith}
-use lib.Dec.{eqb}
+use lib.Dec.{eqb, ltb}
 use lib.ListN.{length, getD, take, drop}
 use borrow.Author.Needs.{needs}
 use borrow.Author.Tests.{lt-ltb, le-ltb, eq-eqb, ne-eqb, not-true, not-false}
 use Rattle.rules.specs.Packet.{sum9, check}
 use Rattle.rules.specs.Laying.{areWords, dcIn, wordsFault}
 use Rattle.packet.specs.Run.{wordTable, Passed}
-use Rattle.packet.proofs.Laws.{sum9-most, check-parts, lastTest, userTests, sizeTests, headTests}
+use Rattle.packet.proofs.Laws.{sum9-most, check-parts}
 use Rattle.packet.proofs.fault_by.Statement.{statement}
 use Rattle.packet.proofs.fault_by.Tie as tie
+
+-- ---- the tests that are left: after the user words, after 9, after DID, SDID and DC, after the flag
+
+abbrev lastTest : List ℕ → ℕ
+lastTest s = cond (not (eqb (getD s (dcIn s + 6) 0) (check (take (dcIn s + 3) (drop 3 s))))) 10 0
+
+abbrev userTests : List ℕ → ℕ
+userTests s = cond (not (areWords (take (dcIn s) (drop 6 s)))) 8 (lastTest s)
+
+abbrev sizeTests : List ℕ → ℕ
+sizeTests s = cond (ltb (length s) (dcIn s + 7)) 9 (userTests s)
+
+abbrev headTests : List ℕ → ℕ
+headTests s = cond (not (areWords (take 3 (drop 3 s)))) 8 (sizeTests s)
 
 -- ---- the words that are given, as each place of the code has them
 

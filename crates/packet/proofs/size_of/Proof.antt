@@ -1,10 +1,6 @@
 -- `packet::size_of` meets its contract. Assumes nothing.
-use Prim.Native.Nat.{ℕ, _+_}
-use mathlib.Core.Path.{ap}
-use native.Mathlib.Omega.{arith}
-use lib.ListN.{drop}
 use borrow.Author.Needs.{needs}
-use Rattle.packet.proofs.Laws.{size-short}
+use Rattle.packet.proofs.Laws.{size-short, size-whole}
 use Rattle.packet.proofs.size_of.Statement.{statement}
 use Rattle.packet.proofs.size_of.Tie as tie
 
@@ -15,14 +11,10 @@ add-n : tie.Need-add-n
 add-n c = search needs
 
 returns : tie.Need-returns
-returns c =
-    let ws = c .before .before .before .args .ws .now in
-    (omega arith, size-short ws _ (c .before .dc-of .ensures) (c .if1 .taken))
+returns c = size-short _ _ (c .before .dc-of .ensures) (c .if1 .taken)
 
 returns-2 : tie.Need-returns-2
-returns-2 c =
-    let ws = c .before .before .before .args .ws .now in
-    (omega (arith, c .if1 .left), ap (λ (n : ℕ). drop (n + 7) ws) (c .before .dc-of .ensures))
+returns-2 c = size-whole _ _ (c .before .dc-of .ensures) (c .if1 .left)
 
 pub size-of-spec : {M : Type 1} → statement M
 size-of-spec = tie.close (tie.spec dc-of-requires add-n returns returns-2)

@@ -48,7 +48,7 @@ loop-again c =
     let d = c .before .before .before in
     let more = c .before .before .loop-test .taken in
     let a = d .before .before .args in
-    (search needs, behind-next (a .ws .now) (d .loop .at) _ (d .loop .left) (a .place) more (c .size-of .ensures .1) (d .loop .inv .1))
+    (search needs, behind-next (a .ws .now) (d .loop .at) _ (d .loop .left) (a .place) more (c .size-of .ensures .behind) (d .loop .inv .1))
 
 mul-word-at : tie.Need-mul-word-at Inv-loop μ-loop
 mul-word-at c = search needs

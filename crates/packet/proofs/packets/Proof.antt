@@ -1,4 +1,4 @@
--- `sheet::packets` meets its contract. What the words from here on give, with the packets and figures so far, is what all of them give.
+-- `packet::packets` meets its contract. What the words from here on give, with the packets and figures so far, is what all of them give.
 -- A packet has at least 7 words and more words than packs, so no sum wraps. The measure is what is left of the words. Assumes nothing.
 use Prim.Native.Nat.{ℕ, _+_, _-_, _%_, _≤_}
 use mathlib.Core.Path.{_≡_, _∙_}
@@ -8,9 +8,9 @@ use lib.ListN.{length, getD, take, drop}
 use borrow.Author.Needs.{needs}
 use Rattle.rules.specs.Laying.{wordsFault, packetsOfWords}
 use Rattle.rules.specs.Lister.{testedOf}
-use Rattle.sheet.proofs.Laws.{wholeFrom, at-first, at-end, at-fault, all-there, at-next}
-use Rattle.sheet.proofs.packets.Statement.{statement}
-use Rattle.sheet.proofs.packets.Tie as tie
+use Rattle.packet.proofs.Row.{wholeFrom, at-first, at-end, at-fault, all-there, at-next}
+use Rattle.packet.proofs.packets.Statement.{statement}
+use Rattle.packet.proofs.packets.Tie as tie
 
 abbrev Inv-loop : tie.InvT-loop
 Inv-loop system ws table at₀ k₀ packs₀ at k packs =
@@ -73,17 +73,17 @@ returns c =
     let o = at-fault _ (start .args .ws .now) i _ (tested (c .before .before)) (c .before .if1 .taken) (start .args .system) _ (l .packs) in
     c .refusal .ensures ∙ o ∙ l .inv .3
 
-add-wide : tie.Need-add-wide Inv-loop μ-loop
-add-wide c = search needs
+add-low-byte : tie.Need-add-low-byte Inv-loop μ-loop
+add-low-byte c = search needs
 
-mul-wide : tie.Need-mul-wide Inv-loop μ-loop
-mul-wide c = search needs
+mul-low-byte : tie.Need-mul-low-byte Inv-loop μ-loop
+mul-low-byte c = search needs
 
-shared-slice-read-wide : tie.Need-shared-slice-read-wide Inv-loop μ-loop
-shared-slice-read-wide c = let l = there (c .before) in omega arith
+shared-slice-read-low-byte : tie.Need-shared-slice-read-low-byte Inv-loop μ-loop
+shared-slice-read-low-byte c = let l = there (c .before) in omega arith
 
-wide-requires : tie.Need-wide-requires Inv-loop μ-loop
-wide-requires c κs = search needs
+low-byte-requires : tie.Need-low-byte-requires Inv-loop μ-loop
+low-byte-requires c κs = search needs
 
 add-packs : tie.Need-add-packs Inv-loop μ-loop
 add-packs c = search needs
@@ -113,7 +113,7 @@ loop-again c =
     let a = in-turn .before .before .before .before .args in
     let l = in-turn .before .loop in
     let f = tested (b .before) in
-    let d = c .wide .ensures .0 in
+    let d = c .low-byte .ensures in
     let o = at-next _ (ws b) (in-turn .loop-test .taken) _ f (b .if1 .left) _ d (a .system) (l .k) (l .packs) in
     let m = there b in
     (omega arith, omega arith, omega arith, o ∙ l .inv .3)
@@ -136,10 +136,10 @@ packets-spec =
     fault-by-requires
     refusal-requires
     returns
-    add-wide
-    mul-wide
-    shared-slice-read-wide
-    wide-requires
+    add-low-byte
+    mul-low-byte
+    shared-slice-read-low-byte
+    low-byte-requires
     add-packs
     add-packs-2
     add-packs-3
