@@ -5,8 +5,7 @@ ghost use Prim.Native.Nat.{_+_, _≤_};
 ghost use lib.ListN.{length};
 ghost use Rattle.io.specs.Counts.{Counts};
 ghost use Rattle.rules.specs.Sheet.{systemIn, wordsIn};
-ghost use Rattle.rules.specs.Laying.{wordIn};
-ghost use Rattle.rules.specs.Lister.{testedOf, testedWith, numbersOf, listing as Lister·listing};
+ghost use Rattle.rules.specs.Lister.{testedIn, numbersOf, listing as Lister·listing};
 use rules::Tested;
 use sheet_file::NUMBERS;
 
@@ -15,8 +14,8 @@ pub const ROOM: usize = 32768;
 
 // The lister's tests of a file, with the word that a refusal names (document 02, A2). The file's numbers then stand at the start of s.
 fn tested(file: &[u8], s: &mut [u16; NUMBERS]) -> Tested
-    ensures { λ r. ⌜ r ≡ testedWith (wordIn (wordsIn (numbersOf (now (file .entry)))) (Lister·listing (now (file .entry))))
-        (testedOf (systemIn (numbersOf (now (file .entry)))) (Lister·listing (now (file .entry)))) ⌝ }
+    ensures { λ r. ⌜ r ≡ testedIn (systemIn (numbersOf (now (file .entry)))) (wordsIn (numbersOf (now (file .entry))))
+        (Lister·listing (now (file .entry))) ⌝ }
 {
     let n = sheet_file::decode(file, s);
     let numbers = &s[..];
@@ -111,8 +110,8 @@ pub struct Listed {
 // The text of a file, at the start of out, as far as there is room. The file's numbers then stand at the start of s.
 pub fn list(file: &[u8], s: &mut [u16; NUMBERS], out: &mut [u8]) -> Listed
     ensures { λ r. ⌜ Counts (r .bytes) (now (out .exit)) ⌝ }
-    ensures tests { λ r. ⌜ r .tested ≡ testedWith (wordIn (wordsIn (numbersOf (now (file .entry)))) (Lister·listing (now (file .entry))))
-        (testedOf (systemIn (numbersOf (now (file .entry)))) (Lister·listing (now (file .entry)))) ⌝ }
+    ensures tests { λ r. ⌜ r .tested ≡ testedIn (systemIn (numbersOf (now (file .entry)))) (wordsIn (numbersOf (now (file .entry))))
+        (Lister·listing (now (file .entry))) ⌝ }
 {
     let t = tested(file, s);
     let n = text_of(file, s, t, out);

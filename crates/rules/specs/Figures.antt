@@ -1,11 +1,11 @@
--- "Worked figures": the starred lines as one table, and the table of "Three systems". A row has what the definitions give, and
--- what document 01 states. That the two columns agree is proved in proofs/Figures.
+-- "Worked figures": the starred lines as one table, some of A2's, and the table of "Three systems". A row has what the definitions
+-- give, and what document 01 states, or A2. That the two columns agree is proved in proofs/Figures.
 -- Assumes nothing.
 use Prim.Native.Nat.{ℕ}
 use mathlib.Core.Bool.{Bool, true, false, _&&_}
-use mathlib.Core.List.{List, [], _∷_}
+use mathlib.Core.List.{List, [], _∷_, _++_}
 use lib.Dec.{eqb}
-use lib.ListN.{take, drop}
+use lib.ListN.{set, take, drop}
 use Rattle.rules.specs.Systems.{System, system}
 use Rattle.rules.specs.Packet.{Packet, words}
 use Rattle.rules.specs.Danc.{written, header, danc}
@@ -13,7 +13,8 @@ use Rattle.rules.specs.Blocks.{blockSizes, areaSize}
 use Rattle.rules.specs.Packing1.{flat, packs, packsOf}
 use Rattle.rules.specs.Packings.{laidBytes, capacity, mostPacks}
 use Rattle.rules.specs.Numbers.{listed}
-use Rattle.rules.specs.Lister.{testedOf, firstLine, row}
+use Rattle.rules.specs.Laying.{judged}
+use Rattle.rules.specs.Lister.{testedOf, tested, firstLine, row}
 
 pub record Line : Type 0 where
   pub given : List ℕ
@@ -62,6 +63,29 @@ unfoldable pub lister : List Line
 lister =
     line (firstLine (testedOf 1 (listed (p ∷ [])))) (1 ∷ 1 ∷ 9 ∷ 3 ∷ [])
     ∷ line (row 0 p) (0 ∷ 9 ∷ 0 ∷ 0x45 ∷ 0x01 ∷ 2 ∷ [])
+    ∷ []
+
+-- A2: what the test of a packet says, number, word and type; and what the lister's tests say of a sheet, number, place and word
+abbrev pub judgedLine : List ℕ → List ℕ
+judgedLine s = judged s .number ∷ judged s .word ∷ judged s .kind ∷ []
+
+abbrev pub refusedLine : List ℕ → List ℕ
+refusedLine s = tested s .number ∷ tested s .place ∷ tested s .word ∷ []
+
+-- of p; of a packet with DID 80h; of p with a word that is wrong, or cut off; of a sheet of p and p with a wrong CS
+unfoldable pub faults : List Line
+faults =
+    line (judgedLine (words p)) (0 ∷ 0 ∷ 2 ∷ [])
+    ∷ line (judgedLine (words (record { did = 0x80; sdid = 0x01; user = []; line = 9; flags = 0 }))) (0 ∷ 0 ∷ 1 ∷ [])
+    ∷ line (judgedLine (set (words p) 1 0x3FE)) (7 ∷ 1 ∷ 0 ∷ [])
+    ∷ line (judgedLine []) (7 ∷ 0 ∷ 0 ∷ [])
+    ∷ line (judgedLine (take 5 (words p))) (7 ∷ 5 ∷ 0 ∷ [])
+    ∷ line (judgedLine (take 5 (set (words p) 2 0x000))) (7 ∷ 2 ∷ 0 ∷ [])
+    ∷ line (judgedLine (set (words p) 3 0x045)) (8 ∷ 3 ∷ 0 ∷ [])
+    ∷ line (judgedLine (set (words p) 7 0x3FF)) (8 ∷ 7 ∷ 0 ∷ [])
+    ∷ line (judgedLine (take 8 (words p))) (9 ∷ 8 ∷ 0 ∷ [])
+    ∷ line (judgedLine (set (words p) 8 0x2D8)) (10 ∷ 8 ∷ 0 ∷ [])
+    ∷ line (refusedLine (1 ∷ 1 ∷ 2 ∷ 9 ∷ 0 ∷ 9 ∷ 0 ∷ 18 ∷ words p ++ set (words p) 8 0x2D8)) (10 ∷ 1 ∷ 8 ∷ [])
     ∷ []
 
 -- a row of "Three systems", computed from the blocks: sequences, last line, area bytes, packs of 5, string capacity; and the blocks,
