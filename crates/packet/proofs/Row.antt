@@ -23,11 +23,9 @@ use Rattle.rules.specs.Lister.{testedOf}
 use Rattle.rules.specs.declared.Tested.{Tested}
 use Rattle.rules.proofs.Basics.{rest-part}
 use Rattle.rules.proofs.Words.{fault-long, words-enough}
+use Rattle.packet.specs.Run.{counted}
 
 -- ---- the figures of packets
-
-abbrev pub counted : ℕ → ℕ → ℕ → ℕ → Tested
-counted sys k bytes packs = record { number = 0; place = 0; word = 0; system = sys; packets = k; bytes = bytes; packs = packs }
 
 -- the figures of some packets, and those of a list behind them
 abbrev pub addTo : ℕ → ℕ → ℕ → ℕ → Outcome → Tested
@@ -80,6 +78,11 @@ front-fine (suc left) i s h l f =
       add-one i,
       words-enough left (suc left - (dcIn s + 7)) (suc i) (drop (dcIn s + 7) s) (omega arith) (omega arith),
     )
+
+pub no-packets : (sys : ℕ) (ws : List ℕ) → length ws ≡ 0 → counted sys 0 0 0 ≡ testedOf sys (packetsOfWords ws)
+unfolding packetsOfWords wordRow
+no-packets sys [] h = refl
+no-packets sys (w ∷ ws) h = absurd (omega arith)
 
 -- no packet is left
 pub at-end : (sys k at packs : ℕ) (ws : List ℕ) → length ws ≤ at → counted sys k at packs ≡ wholeFrom sys k at packs ws

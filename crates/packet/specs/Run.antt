@@ -7,6 +7,7 @@ use mathlib.Core.List.{List, [], _∷_}
 use lib.ListN.{length, take, drop}
 use Rattle.rules.specs.Packet.{word, sum9}
 use Rattle.rules.specs.Laying.{areWords, dcIn}
+use Rattle.rules.specs.declared.Tested.{Tested}
 use Rattle.packet.specs.declared.Pass.{Pass}
 use Rattle.packet.specs.declared.Run.{Run}
 
@@ -31,6 +32,10 @@ wordTable = wordsFrom 0 256
 pub record Passed (table ws : List ℕ) (r : Pass) : Type 0 where
   pub words : table ≡ wordTable → r .words ≡ areWords ws
   pub sum : r .words ≡ true → r .sum ≡ sum9 ws
+
+-- what the tests give back of packets without a fault: so many, their string bytes, their packs
+abbrev pub counted : ℕ → ℕ → ℕ → ℕ → Tested
+counted sys k bytes packs = record { number = 0; place = 0; word = 0; system = sys; packets = k; bytes = bytes; packs = packs }
 
 -- how many words the packet in front takes, DC + 7, as far as there are so many: it is these, and the others stand behind it
 pub record SizeOf (s : List ℕ) (n : ℕ) : Type 0 where

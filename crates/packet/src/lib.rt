@@ -8,7 +8,7 @@ ghost use Rattle.rules.specs.Numbers.{refused};
 ghost use Rattle.rules.specs.Laying.{wordsFault, packetsOfWords, dcIn, wordsBefore, flagWord, wordAt, fromPacket, typeOf};
 ghost use Rattle.rules.specs.Lister.{testedOf};
 ghost use Rattle.rules.specs.Demands.{Judges};
-ghost use Rattle.packet.specs.Run.{passOf, runOf, wordTable, Passed, SizeOf};
+ghost use Rattle.packet.specs.Run.{passOf, runOf, wordTable, Passed, counted, SizeOf};
 use rules::Judged;
 use rules::Tested;
 
@@ -191,6 +191,21 @@ fn refusal(number: u64, place: u64) -> Tested
     }
 }
 
+// The figures of packets without a fault.
+fn passed(system: u64, packets: u64, bytes: u64, packs: u64) -> Tested
+    ensures { λ r. ⌜ r ≡ counted system packets bytes packs ⌝ }
+{
+    Tested {
+        number: 0,
+        place: 0,
+        word: 0,
+        system,
+        packets,
+        bytes,
+        packs,
+    }
+}
+
 // The number of the first fault of the packet that the words begin with, 0 for none, in document 01's order.
 // The whole sums of the two passes are added for CS, so that no word is summed twice. The table is lent, so that a caller with many
 // packets makes it once; with any other table the answer says nothing.
@@ -220,9 +235,13 @@ fn fault_by(table: &[u16; 256], ws: &[u16]) -> u64
 
 // "Then packet by packet", "packets back to back": the first packet at fault, its word not yet looked for, or the figures of all of them.
 // "A DANC packet has as many bytes as its VANC packet has words, DC + 7." "A packet takes 2 + DC/4 packs, the quotient rounded up."
+// Many frames have no packets, and then no table is made.
 pub fn packets(system: u64, ws: &[u16]) -> Tested
     ensures { λ r. ⌜ r ≡ testedOf system (packetsOfWords (now (ws .entry))) ⌝ }
 {
+    if ws.len() == 0 {
+        return passed(system, 0, 0, 0);
+    }
     let table = words();
     let mut at = 0;
     let mut k: u64 = 0;
@@ -237,15 +256,7 @@ pub fn packets(system: u64, ws: &[u16]) -> Tested
         at += dc + 7;
         k += 1;
     }
-    Tested {
-        number: 0,
-        place: 0,
-        word: 0,
-        system,
-        packets: k,
-        bytes: at as u64,
-        packs,
-    }
+    passed(system, k, at as u64, packs)
 }
 
 // "the first wrong flag word, else the first missing word" (document 02, A2).

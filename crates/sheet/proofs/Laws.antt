@@ -24,7 +24,7 @@ use Rattle.rules.specs.Lister.{testedOf, testedWith, testedIn, tested}
 use Rattle.rules.specs.declared.Tested.{Tested}
 use Rattle.rules.proofs.Basics.{both, second-false, rest-part}
 use Rattle.rules.proofs.Words.{words-refused}
-use Rattle.packet.proofs.Row.{counted}
+use Rattle.packet.specs.Run.{counted}
 use Rattle.frame.specs.Systems.{figuresOf}
 use Rattle.frame.specs.declared.Figures.{Figures}
 use Rattle.frame.proofs.Laws.{last-is, is-unknown, is-known}

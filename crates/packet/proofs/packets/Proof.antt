@@ -8,7 +8,7 @@ use lib.ListN.{length, getD, take, drop}
 use borrow.Author.Needs.{needs}
 use Rattle.rules.specs.Laying.{wordsFault, packetsOfWords}
 use Rattle.rules.specs.Lister.{testedOf}
-use Rattle.packet.proofs.Row.{wholeFrom, at-first, at-end, at-fault, all-there, at-next}
+use Rattle.packet.proofs.Row.{wholeFrom, no-packets, at-first, at-end, at-fault, all-there, at-next}
 use Rattle.packet.proofs.packets.Statement.{statement}
 use Rattle.packet.proofs.packets.Tie as tie
 
@@ -22,7 +22,7 @@ abbrev μ-loop : tie.MeasureT-loop
 -- what the test of the packet here says, by the right table
 module _ (c : tie.After-fault-by Inv-loop μ-loop) where
   abbrev given : List ℕ
-  given = c .before .before .before .before .before .before .before .args .ws .now
+  given = c .before .before .before .before .before .before .before .before .args .ws .now
 
   abbrev place : ℕ
   place = c .before .before .before .before .loop .at
@@ -31,7 +31,7 @@ module _ (c : tie.After-fault-by Inv-loop μ-loop) where
   tested = c .fault-by .ensures (c .before .before .before .before .before .words .ensures)
 
 -- a packet that passed its test has all its words
-module _ (c : tie.Else1 Inv-loop μ-loop) where
+module _ (c : tie.Else2 Inv-loop μ-loop) where
   abbrev ws : List ℕ
   ws = given (c .before)
 
@@ -39,7 +39,13 @@ module _ (c : tie.Else1 Inv-loop μ-loop) where
   at = place (c .before)
 
   there : at + (getD ws (at + 5) 0 % 256 + 7) ≤ length ws
-  there = all-there at ws (c .before .before .before .before .loop-test .taken) _ (tested (c .before)) (c .if1 .left)
+  there = all-there at ws (c .before .before .before .before .loop-test .taken) _ (tested (c .before)) (c .if2 .left)
+
+passed-requires : tie.Need-passed-requires Inv-loop μ-loop
+passed-requires c κs = search needs
+
+returns : tie.Need-returns Inv-loop μ-loop
+returns c = c .passed .ensures ∙ no-packets _ _ (c .before .if1 .taken)
 
 words-requires : tie.Need-words-requires Inv-loop μ-loop
 words-requires c κs = search needs
@@ -65,12 +71,12 @@ fault-by-requires c κs = search needs
 refusal-requires : tie.Need-refusal-requires Inv-loop μ-loop
 refusal-requires c κs = search needs
 
-returns : tie.Need-returns Inv-loop μ-loop
-returns c =
-    let start = c .before .before .before .before .before .before .before .before .before in
+returns-2 : tie.Need-returns-2 Inv-loop μ-loop
+returns-2 c =
+    let start = c .before .before .before .before .before .before .before .before .before .before in
     let l = c .before .before .before .before .before .before .loop in
     let i = c .before .before .before .before .before .loop-test .taken in
-    let o = at-fault _ (start .args .ws .now) i _ (tested (c .before .before)) (c .before .if1 .taken) (start .args .system) _ (l .packs) in
+    let o = at-fault _ (start .args .ws .now) i _ (tested (c .before .before)) (c .before .if2 .taken) (start .args .system) _ (l .packs) in
     c .refusal .ensures ∙ o ∙ l .inv .3
 
 add-low-byte : tie.Need-add-low-byte Inv-loop μ-loop
@@ -108,18 +114,23 @@ loop-less c = search needs
 
 loop-again : tie.Need-loop-again Inv-loop μ-loop
 loop-again c =
-    let b : tie.Else1 Inv-loop μ-loop = c .before .before in
+    let b : tie.Else2 Inv-loop μ-loop = c .before .before in
     let in-turn = b .before .before .before .before in
-    let a = in-turn .before .before .before .before .args in
+    let a = in-turn .before .before .before .before .before .args in
     let l = in-turn .before .loop in
     let f = tested (b .before) in
     let d = c .low-byte .ensures in
-    let o = at-next _ (ws b) (in-turn .loop-test .taken) _ f (b .if1 .left) _ d (a .system) (l .k) (l .packs) in
+    let o = at-next _ (ws b) (in-turn .loop-test .taken) _ f (b .if2 .left) _ d (a .system) (l .k) (l .packs) in
     let m = there b in
     (omega arith, omega arith, omega arith, o ∙ l .inv .3)
 
-returns-2 : tie.Need-returns-2 Inv-loop μ-loop
-returns-2 c = at-end _ _ _ _ (c .before .before .before .before .args .ws .now) (c .loop-test .left) ∙ c .before .loop .inv .3
+passed-requires-2 : tie.Need-passed-requires-2 Inv-loop μ-loop
+passed-requires-2 c κs = search needs
+
+returns-3 : tie.Need-returns-3 Inv-loop μ-loop
+returns-3 c =
+    let ws = c .before .before .before .before .before .before .args .ws .now in
+    c .passed2 .ensures ∙ at-end _ _ _ _ ws (c .before .loop-test .left) ∙ c .before .before .loop .inv .3
 
 pub packets-spec : {M : Type 1} → statement M
 packets-spec =
@@ -127,6 +138,8 @@ packets-spec =
     (tie.spec
     Inv-loop
     μ-loop
+    passed-requires
+    returns
     words-requires
     loop-holds
     mul-fault-by
@@ -135,7 +148,7 @@ packets-spec =
     part-fault-by-end
     fault-by-requires
     refusal-requires
-    returns
+    returns-2
     add-low-byte
     mul-low-byte
     shared-slice-read-low-byte
@@ -148,4 +161,5 @@ packets-spec =
     add-k
     loop-less
     loop-again
-    returns-2)
+    passed-requires-2
+    returns-3)
