@@ -1,6 +1,6 @@
 #!/usr/bin/env python3
-"""What crates/block_cases has to print: python3 tests/block_cases.py writes its stdout. 001, table 4 gives the order of the blocks in a frame, document
-01 where one starts."""
+"""What crates/block_cases has to print: python3 tests/block_cases.py writes its stdout. 001, table 4 gives the order of the blocks in a frame,
+document 01 where one starts."""
 import pathlib
 
 HOME = pathlib.Path(__file__).resolve().parent.parent / "crates" / "block_cases"

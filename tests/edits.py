@@ -107,7 +107,7 @@ def wrong_counts():
         wanted = counted.get(crate, (0, 0))
         for folder, count, edits in zip((f"crates/{crate}/must-fail", f"tests/edits/{crate}"), wanted, (of_rt(crate), ours(crate))):
             if len(edits) != count:
-                wrong.append(f"{folder} has {len(edits)} edits, and {COUNT} says {count}: bring back what is missing, or change the count with the edits")
+                wrong.append(f"{folder} has {len(edits)} edits, and {COUNT} says {count}: bring back what is missing, or change the count too")
             others = set(glob.glob(f"{folder}/*")) - set(edits)
             wrong += [f"{path} is no .edit file: nothing tries it" for path in sorted(others)]
     return wrong

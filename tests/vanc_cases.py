@@ -1,10 +1,10 @@
 #!/usr/bin/env python3
 """Cases for laying and reading, and what has to come out: python3 tests/vanc_cases.py writes crates/vanc_cases/data/cases and its stdout.
 
-A case lays a sheet into an area that was filled with noise, damages the area byte by byte, and reads it into a buffer that was filled with noise. Its head has six
-numbers of four bytes, high byte first: how many numbers the sheet has, how many bytes the area, what it is filled with (256 and more: noise from this seed; less: this
-byte), how many numbers the buffer, how many damages; and packing * 65536 + the system that is read. Then come the sheet and the damages, each a place of two bytes and
-a byte that is added bit by bit."""
+A case lays a sheet into an area that was filled with noise, damages the area byte by byte, and reads it into a buffer that was filled with noise.
+Its head has six numbers of four bytes, high byte first: how many numbers the sheet has, how many bytes the area, what it is filled with (256 and
+more: noise from this seed; less: this byte), how many numbers the buffer, how many damages; and packing * 65536 + the system that is read. Then come
+the sheet and the damages, each a place of two bytes and a byte that is added bit by bit."""
 import pathlib
 import random
 import struct

@@ -1,8 +1,8 @@
 #!/usr/bin/env python3
 """Strings for the walker, and what has to come out: python3 tests/walker_cases.py writes crates/walker_cases/data/cases and its stdout.
 
-A case is a system in one byte, the string's length in two, high byte first, and the string. Printed are of each answer its number, place and length, and which
-answer it is (0 for the last that there is); then the same of steps from places of all sorts, and where the walker stands after each."""
+A case is a system in one byte, the string's length in two, high byte first, and the string. Printed are of each answer its number, place and length,
+and which answer it is (0 for the last that there is); then the same of steps from places of all sorts, and where the walker stands after each."""
 import pathlib
 import random
 

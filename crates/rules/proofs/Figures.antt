@@ -34,8 +34,8 @@ unfolding lister
 lister-agree = refl
 
 pub faults-agree : agree faults ≡ true
-unfolding faults parity word check coded checkOf words isWord wordsFault flagWord wordAt judged wordRow packetsOfWords shaped listTests sheetTests tested
-    limit known system stands
+unfolding faults parity word check coded checkOf words isWord wordsFault flagWord wordAt judged
+    wordRow packetsOfWords shaped listTests sheetTests tested limit known system stands
 faults-agree = refl
 
 pub systems-agree : agree systems ≡ true

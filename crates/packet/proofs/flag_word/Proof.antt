@@ -25,7 +25,10 @@ shared-slice-read-if2 c = search needs
 
 returns : tie.Need-returns
 returns c =
-    ⊎-elim (λ w. flag-0 _ (λ l e. absurd (omega (arith, w .taken)))) (λ w. flag-0 _ (λ l. eqb-false _ 0x000 (not-true _ (w .2 .taken)))) (c .if1 .came)
+    ⊎-elim
+    (λ w. flag-0 _ (λ l e. absurd (omega (arith, w .taken))))
+    (λ w. flag-0 _ (λ l. eqb-false _ 0x000 (not-true _ (w .2 .taken))))
+    (c .if1 .came)
 
 shared-slice-read-if4 : tie.Need-shared-slice-read-if4
 shared-slice-read-if4 c = let l = first (c .before .before) .0 in omega arith
