@@ -234,6 +234,7 @@ def words_at_fault():
     yield "did", 8, 3, with_word(two, 3, 0x045)
     yield "did_over", 8, 3, with_word(dbn, 3, 0xFFFF)
     yield "sdid", 8, 4, with_word(two, 4, 0x301)
+    yield "sdid_over", 8, 4, with_word(two, 4, 0xFFF)  # the largest of three digits; 1000h above has four
     yield "sdid_of_7f", 8, 4, with_word(twenty, 4, 0x002)
     yield "dbn_of_80", 8, 4, with_word(dbn, 4, 0x3FF)
     yield "dbn_of_ff", 8, 4, with_word(longest, 4, 0x201)
