@@ -25,6 +25,10 @@
  *       the element is longer than its buffer
  *   18  a packet that the element serves has no line                             the packet
  *   19  the element is not of its form, or a line in it is 0 or past the last    the element byte: the first at fault
+ *   20  a line of the frame on which no packet may stand                         for a sheet the location; on reading as for 14
+ *
+ * Packets stand on no line (0) or on a line of the vertical interval that is not kept free for switching (SMPTE RP 291-2, table 3a): in 1080 on
+ * lines 1 to 20, 561 to 583, 1124 and 1125, without 7, 8, 569 and 570; in 720 on lines 1 to 25 and 746 to 750, without 7 and 8.
  *
  * Packets and locations count from 0. Where several apply, the tests are made in a fixed order and the first is named.
  *
@@ -60,11 +64,14 @@ extern "C" {
 /*
  * This version, and as one number for #if: 10000 x major + 100 x minor + patch.
  *
+ * Since 0.5.0 a packet on a picture line is refused with 20, by every call that takes a line: a sheet, an area or an element that older versions
+ * took is refused where it has one.
+ *
  * Since 0.4.0 `word` stands behind `place` in vanc_laid and vanc_element_written, which have grown from 32 to 40 bytes: what was compiled with
  * an older header has to be compiled with this one before it is linked with this library.
  */
-#define VANC_VERSION "0.4.0"
-#define VANC_VERSION_NUMBER 400
+#define VANC_VERSION "0.5.0"
+#define VANC_VERSION_NUMBER 500
 
 /* The toolchain that all was proved with. */
 #define VANC_TOOLCHAIN "rattle-kit-5b-plain logic 097e4c862dff5811"
@@ -104,10 +111,12 @@ enum {
     VANC_REFUSED_LINE = 16,
     VANC_REFUSED_BUFFER = 17,
     VANC_REFUSED_NO_LINE = 18,
-    VANC_REFUSED_ELEMENT = 19
+    VANC_REFUSED_ELEMENT = 19,
+    VANC_REFUSED_PICTURE_LINE = 20
 };
 
-/* What a number says, in words: "done" for 0, "no number of a refusal" for one that no call gives. The command `vanc` says the same words. */
+/* What a number says, in words: "done" for 0, "no number of a refusal" for one that no call gives. The command `vanc` says the same words; for 20
+ * of a sheet it says the line too. */
 static inline const char *vanc_refusal_text(uint64_t number)
 {
     switch (number) {
@@ -151,6 +160,8 @@ static inline const char *vanc_refusal_text(uint64_t number)
         return "it has no line, which an element asks for";
     case VANC_REFUSED_ELEMENT:
         return "the element is not of the form of SMPTE ST 436-1 from here on";
+    case VANC_REFUSED_PICTURE_LINE:
+        return "its line is a picture line, or kept free for switching (7, 8, 569, 570)";
     default:
         return "no number of a refusal";
     }
@@ -220,7 +231,7 @@ vanc_judged vanc_test_packet(const uint16_t *words, size_t words_len);
  * packing   1: packs of five bytes; 2: one long pack per block.
  * area      the VAUX blocks of one frame, 80 bytes each, by channel, sequence and block.
  *
- * Success: the area's user bytes are the packets' and fill, every other byte is as it was. Refusal (1 to 12): the area is unchanged.
+ * Success: the area's user bytes are the packets' and fill, every other byte is as it was. Refusal (1 to 6, 20, 7 to 12): the area is unchanged.
  * The sheet is only read.
  */
 vanc_laid vanc_lay(const uint16_t *sheet, size_t sheet_len, uint64_t packing, uint8_t *area, size_t area_len);
@@ -228,14 +239,14 @@ vanc_laid vanc_lay(const uint16_t *sheet, size_t sheet_len, uint64_t packing, ui
 /*
  * Reads an area's packets into a sheet, in either packing.
  *
- * Success: the first `numbers` numbers of `sheet` are the sheet, those behind it are as they were. Refusal (3, 4, 5, 13 to 17): the
- * buffer is unchanged; 17 cannot come with VANC_SHEET_MAX numbers. The area is only read.
+ * Success: the first `numbers` numbers of `sheet` are the sheet, those behind it are as they were. Refusal (3, 4, 13, 5, 14 to 16, 20,
+ * 17): the buffer is unchanged; 17 cannot come with VANC_SHEET_MAX numbers. The area is only read.
  */
 vanc_read_back vanc_read(uint64_t system, const uint8_t *area, size_t area_len, uint16_t *sheet, size_t sheet_len);
 
 /*
  * One step over a string of packets without fill: what stands at `place`, a number of bytes from the string's start. Begin with place
- * 0, and go on with place + length while length is not 0. Refusals: 3 (place 0), 14, 15, 16. A place at the string's end or past it
+ * 0, and go on with place + length while length is not 0. Refusals: 3 (place 0), 14, 15, 16, 20. A place at the string's end or past it
  * is the end. The string is only read.
  */
 vanc_step vanc_walk(uint64_t system, const uint8_t *string, size_t string_len, uint64_t place);
@@ -247,8 +258,8 @@ vanc_step vanc_walk(uint64_t system, const uint8_t *string, size_t string_len, u
  * fi        720/60p: the element is of the frame with this FI, and packets of the other are passed over. 1080: of no effect, all
  *           packets are served.
  *
- * Success: the first `bytes` bytes of `element` are the element, those behind it are as they were. Refusal (2, 3, 5 to 11 for the whole
- * sheet, then 18, then 17): the buffer is unchanged; 17 cannot come with VANC_ELEMENT_MAX bytes. The sheet is only read.
+ * Success: the first `bytes` bytes of `element` are the element, those behind it are as they were. Refusal (2, 3, 5, 6, 20, 7 to 11 for
+ * the whole sheet, then 18, then 17): the buffer is unchanged; 17 cannot come with VANC_ELEMENT_MAX bytes. The sheet is only read.
  */
 vanc_element_written vanc_mxf_write(const uint16_t *sheet, size_t sheet_len, bool fi, uint8_t *element, size_t element_len);
 
@@ -257,8 +268,8 @@ vanc_element_written vanc_mxf_write(const uint16_t *sheet, size_t sheet_len, boo
  *
  * fi        720/60p: the FI that the packets get. 1080: of no effect, they get 0.
  *
- * Success: the first `numbers` numbers of `sheet` are the sheet, those behind it are as they were. Refusal (3, 19, 5, 17, in this
- * order): the buffer is unchanged; with VANC_ELEMENT_SHEET_MAX numbers 17 comes only for over 65,535 words. The element is only read.
+ * Success: the first `numbers` numbers of `sheet` are the sheet, those behind it are as they were. Refusal (3, 19, 20, 5, 17, in
+ * this order): the buffer is unchanged; with VANC_ELEMENT_SHEET_MAX numbers 17 comes only for over 65,535 words. The element is only read.
  */
 vanc_element_read vanc_mxf_read(uint64_t system, bool fi, const uint8_t *element, size_t element_len, uint16_t *sheet, size_t sheet_len);
 

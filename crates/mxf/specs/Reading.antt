@@ -1,5 +1,5 @@
 -- The tests of an element, and what reading gives back: "on reading 3, 19 .., 5, 17 (W over 65,535 too); in these orders, target
--- unchanged".
+-- unchanged"; and 20, with the packet, "after 19" (document 02, A3).
 --
 -- In order: the tests; the answer.
 -- Assumes nothing.
@@ -8,10 +8,11 @@ use mathlib.Core.Bool.{Bool, cond}
 use mathlib.Core.List.{List}
 use lib.Dec.{leb}
 use lib.ListN.{length}
-use Rattle.rules.specs.Systems.{known}
+use Rattle.rules.specs.Systems.{known, system}
 use Rattle.rules.specs.Packet.{Packet}
-use Rattle.rules.specs.Sheet.{limit, sheetOf}
+use Rattle.rules.specs.Sheet.{limit, locations, sheetOf}
 use Rattle.rules.specs.Numbers.{Outcome, listed, refused, unless, andThen}
+use Rattle.rules.specs.Laying.{unlessAt, locationAllowed}
 use Rattle.rules.specs.Reading.{bufferOf}
 use Rattle.sheet.specs.Write.{hasRoom}
 use Rattle.mxf.specs.Judging.{judged}
@@ -21,9 +22,12 @@ use Rattle.mxf.specs.declared.ElementRead.{ElementRead}
 abbrev pub lastTests : ℕ → ℕ → List Packet → Outcome
 lastTests sys room ps = cond (leb (length ps) limit) (unless 17 (hasRoom sys room ps) (listed ps)) (refused 5 limit)
 
--- `room` is how many numbers the sheet buffer holds
+-- "Packet k belongs to location k": 20 names both. `room` is how many numbers the sheet buffer holds
 unfoldable pub reading : ℕ → Bool → List ℕ → ℕ → Outcome
-reading sys fi e room = unless 3 (known sys) (andThen (judged sys fi e) (lastTests sys room))
+reading sys fi e room =
+    unless 3 (known sys)
+    (andThen (judged sys fi e)
+    (λ (ps : List Packet). unlessAt 20 (locationAllowed (system sys)) 0 (locations ps) (lastTests sys room ps)))
 
 -- number, place, packets, sheet numbers; on refusal the later figures are 0
 abbrev pub readOf : ℕ → Outcome → ElementRead

@@ -3,7 +3,7 @@
 -- Assumes nothing.
 use mathlib.Core.Path.{_≡_, refl}
 use mathlib.Core.Bool.{true}
-use Rattle.rules.specs.Systems.{known, system, stands}
+use Rattle.rules.specs.Systems.{known, system, stands, allowed}
 use Rattle.rules.specs.Packet.{parity, word, check, coded, checkOf, words}
 use Rattle.rules.specs.Danc.{header, danc}
 use Rattle.rules.specs.Sheet.{limit}
@@ -23,7 +23,7 @@ use Rattle.rules.specs.Laying.{
   sheetTests,
 }
 use Rattle.rules.specs.Lister.{tested}
-use Rattle.rules.specs.Figures.{agree, starred, lister, faults, systems}
+use Rattle.rules.specs.Figures.{agree, starred, lister, faults, pictureLines, wordRates, systems}
 
 pub starred-agree : agree starred ≡ true
 unfolding starred parity word check coded checkOf words header danc packs userBytes system blockStart shift width runs
@@ -35,8 +35,18 @@ lister-agree = refl
 
 pub faults-agree : agree faults ≡ true
 unfolding faults parity word check coded checkOf words isWord wordsFault flagWord wordAt judged
-    wordRow packetsOfWords shaped listTests sheetTests tested limit known system stands
+    wordRow packetsOfWords shaped listTests sheetTests tested limit known system stands allowed
 faults-agree = refl
+
+pub pictures-agree : agree pictureLines ≡ true
+unfolding pictureLines parity word check coded checkOf words isWord wordsFault wordAt
+    wordRow packetsOfWords shaped listTests sheetTests tested limit known system stands allowed
+pictures-agree = refl
+
+-- 41 lines of 1080, 28 of 720, by computation
+pub rates-agree : agree wordRates ≡ true
+unfolding wordRates system stands allowed
+rates-agree = refl
 
 pub systems-agree : agree systems ≡ true
 unfolding systems system blockStart shift width runs capacity mostPacks

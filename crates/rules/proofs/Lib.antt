@@ -1,6 +1,7 @@
 -- What follows from the rules.
 pub mod Basics
 pub mod Figures
+pub mod Lines
 pub mod Rows
 pub mod Words
 pub mod Judging

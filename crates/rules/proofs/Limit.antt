@@ -11,11 +11,11 @@ use mathlib.Core.Logic.{_⊎_, inl, inr, ⊎-elim}
 use mathlib.Core.Bool.{Bool, true, false, cond}
 use mathlib.Core.List.{List, [], _∷_, _++_, map, append-nil}
 use native.Mathlib.Omega.{arith}
-use lib.Dec.{eqb, ltb, leb, leb·zero}
+use lib.Dec.{eqb, ltb, leb}
 use lib.ListN.{length, replicate, length-append, length-map, length-replicate}
 use borrow.Author.Tests.{eqb-true, leb-true, lt-ltb}
 use Rattle.rules.specs.Base.{allIs, sum, All, none, one, Bytes}
-use Rattle.rules.specs.Systems.{System, hd1080-60i, hd1080-50i, hd720-60p, known, system, stands}
+use Rattle.rules.specs.Systems.{System, hd1080-60i, hd1080-50i, hd720-60p, known, system}
 use Rattle.rules.specs.Packet.{Packet}
 use Rattle.rules.specs.Danc.{Item, Good, written, packetsOf, string, stringBytes}
 use Rattle.rules.specs.Sheet.{limit, sheetOf}
@@ -28,6 +28,7 @@ use Rattle.rules.specs.Reading.{stringEnds, stringRow, packRow, packetsO
 use Rattle.rules.specs.Demands.{Reads}
 use Rattle.rules.specs.declared.ReadBack.{ReadBack}
 use Rattle.rules.proofs.Basics.{never, second-false}
+use Rattle.rules.proofs.Lines.{allowed-none}
 use Rattle.rules.proofs.Strings.{string-room, string-over-read, string-over-laid}
 use Rattle.rules.proofs.Packs.{flat-fives, flat-length, packs-least, packs-over}
 use Rattle.rules.proofs.Long.{long-length, long-read, opened-first, opened-room, long-bytes}
@@ -304,7 +305,7 @@ five-laid xs tail area g many three e l =
 -- the packets need not be without user bytes: in some area one of the 1,275 has one, and the two bytes that remain are 00h
 pub five-user : (area : List ℕ) → length area ≡ areaSize (system 2)
     → (after : List ℕ) × (length after ≡ areaSize (system 2)) × (f : FiveAt 2 after limit) × (userCount (packetsOf (f .items)) ≡ 1)
-unfolding known limit stands five-laid
+unfolding known limit five-laid
 five-user area l =
     let u = no-users 1274 in
     let f = facts-of 2 refl in
@@ -331,7 +332,7 @@ five-user area l =
     good user m b =
         record {
           sound =
-              record { did = omega arith; sdid = omega arith; many = m; user = b; line = leb·zero (system 2 .last); flags = omega arith };
+              record { did = omega arith; sdid = omega arith; many = m; user = b; line = allowed-none (system 2); flags = omega arith };
           bits = omega arith;
           third = omega arith;
           junk = omega arith;

@@ -373,13 +373,13 @@ pub packs-least : (ps : List Packet) → 2 * length ps ≤ sum (map packsOf ps)
 packs-least [] = omega arith
 packs-least (p ∷ ps) = let k = packs-least ps in omega arith
 
--- what holds of 14, 15, 16, and 0 for none, holds of the fault of the packet in front
-packs-faults : (P : ℕ → Type 0) → P 0 → P 14 → P 15 → P 16 → (y : System) (ps : List Five) → P (packsFault y ps)
+-- what holds of 14, 15, 16, 20, and 0 for none, holds of the fault of the packet in front
+packs-faults : (P : ℕ → Type 0) → P 0 → P 14 → P 15 → P 16 → P 20 → (y : System) (ps : List Five) → P (packsFault y ps)
 unfolding packsFault
-packs-faults P p0 p14 p15 p16 y [] = p14
-packs-faults P p0 p14 p15 p16 y (p ∷ ps) =
+packs-faults P p0 p14 p15 p16 p20 y [] = p14
+packs-faults P p0 p14 p15 p16 p20 y (p ∷ ps) =
     let s : List ℕ = frontBytes (p ∷ ps) in
-    chosen P (eqb (p .b0) 0xE1 && carriersFit (lead ps) s) (bytesFault y s) 14 (bytes-faults P p0 p15 p16 y s) p14
+    chosen P (eqb (p .b0) 0xE1 && carriersFit (lead ps) s) (bytesFault y s) 14 (bytes-faults P p0 p15 p16 p20 y s) p14
 
 -- where 5 is given, there are packs for as many packets as there may be
 pub packs-over : (y : System) (left i : ℕ) (s : List Five) (k : ℕ) → Bytes (flat s) → packetsIn (packRow y) left i s ≡ refused 5 k
@@ -388,7 +388,8 @@ unfolding packRow
 packs-over y left i s k h e =
     let w =
     row-over-laid (packRow y) packs (λ (x : Item). x .packet) (Good y) (λ (t : List Five). Bytes (flat t)) packs-later (packs-uncut y)
-    left i s 5 k h (packs-faults (λ (n : ℕ). n ≡ 5 → ⊥) (λ z. omega arith) (λ z. omega arith) (λ z. omega arith) (λ z. omega arith) y) e in
+    left i s 5 k h
+    (packs-faults (λ (n : ℕ). n ≡ 5 → ⊥) (λ z. omega arith) (λ z. omega arith) (λ z. omega arith) (λ z. omega arith) (λ z. omega arith) y) e in
     let xs : List Item = w .1 .items in
     let l : length s ≡ length (joined packs xs) + length (w .1 .tail) = ap length (w .1 .whole) ∙ length-append (joined packs xs) (w .1 .tail) in
     let m = packs-length xs in

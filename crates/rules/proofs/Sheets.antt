@@ -14,14 +14,15 @@ use lib.ListN.{length, getD, take, drop, length-append, length-map, length-drop,
 use lib.Seq.{getD-drop, getD-at, take-at, drop-at, drop-drop, drop-cons, length-take-le}
 use borrow.Author.Tests.{eqb-true, leb-true, ltb-true, eq-eqb, le-leb, lt-ltb}
 use Rattle.rules.specs.Base.{All, none, one, Bytes}
-use Rattle.rules.specs.Systems.{System, known, system, stands}
+use Rattle.rules.specs.Systems.{System, known, system, stands, allowed}
 use Rattle.rules.specs.Packet.{Packet, body, ones, parity, word, sum9, check, coded, checkOf, words, Sound}
 use Rattle.rules.specs.Danc.{stringBytes}
 use Rattle.rules.specs.Sheet.{limit, locations, allWords, sheetOf, systemIn, countIn, locationsIn, wordCountIn, wordsIn}
 use Rattle.rules.specs.Numbers.{Outcome, listed, refused, unless, andThen}
-use Rattle.rules.specs.Laying.{packetsOfWords, shaped, locationsStand, located, listTests, sheetTests}
+use Rattle.rules.specs.Laying.{packetsOfWords, shaped, unlessAt, locationStands, locationAllowed, located, listTests, sheetTests}
 use Rattle.rules.specs.Demands.{SheetOf}
 use Rattle.rules.proofs.Basics.{never, both, append-below}
+use Rattle.rules.proofs.Lines.{allowed-stands, allowed-last}
 use Rattle.rules.proofs.Words.{bare, bares, words-read, WordsOf, words-laid, words-room, words-refused}
 
 -- the number of an outcome, 0 for a list
@@ -39,9 +40,15 @@ located-back : (ps : List Packet) → located (locations ps) (bares ps) ≡ ps
 located-back [] = refl
 located-back (p ∷ ps) = ap (λ (t : List Packet). p ∷ t) (located-back ps)
 
-locations-stand : (y : System) (i : ℕ) (ps : List Packet) (o : Outcome) → All (Sound y) ps → locationsStand y i (locations ps) o ≡ o
+locations-stand : (y : System) (i : ℕ) (ps : List Packet) (o : Outcome) → All (Sound y) ps → unlessAt 6 (locationStands y) i (locations ps) o ≡ o
 locations-stand y i [] o g = refl
-locations-stand y i (p ∷ ps) o (one g gs) = rw (g .line, lt-ltb (p .flags) 4 (g .flags)) (locations-stand y (suc i) ps o gs)
+locations-stand y i (p ∷ ps) o (one g gs) =
+    rw (allowed-stands y (p .line) (g .line), lt-ltb (p .flags) 4 (g .flags)) (locations-stand y (suc i) ps o gs)
+
+pub locations-allowed : (y : System) (i : ℕ) (ps : List Packet) (o : Outcome) → All (Sound y) ps
+    → unlessAt 20 (locationAllowed y) i (locations ps) o ≡ o
+locations-allowed y i [] o g = refl
+locations-allowed y i (p ∷ ps) o (one g gs) = rw (g .line) (locations-allowed y (suc i) ps o gs)
 
 -- ---- the sections of a list's sheet
 
@@ -120,7 +127,7 @@ module _ (sys : ℕ) (ps : List Packet) where
         eq-eqb (length (bares ps)) (length ps) (length-map ps bare),
         located-back ps,
       )
-      (locations-stand y 0 ps (listed ps) g)
+      (locations-stand y 0 ps _ g ∙ locations-allowed y 0 ps (listed ps) g)
 
 -- and all of the lister's
 pub sheet-read : (sys : ℕ) (ps : List Packet) (s : List ℕ) → SheetOf sys ps s → sheetTests s ≡ listed ps
@@ -129,18 +136,20 @@ sheet-read sys ps s g = rw (g .whole, shaped-back sys ps, system-back sys ps, g 
 
 -- ---- the sections of any sheet
 
--- locations that stand, each with its packet, are those packets' locations, and leave their words as they were
-module _ (y : System) where
-  stood : (i : ℕ) (ls : List ℕ) (o : Outcome) (ps : List Packet) → locationsStand y i ls o ≡ listed ps → o ≡ listed ps
-  stood i [] o ps e = e
-  stood i (l ∷ []) o ps e = e
-  stood i (l ∷ f ∷ ls) o ps e = go (stands y l && ltb f 4) (λ q. stood (suc i) ls o ps q) e
-    where
-      go : (t : Bool) → (locationsStand y (suc i) ls o ≡ listed ps → o ≡ listed ps)
-          → cond t (locationsStand y (suc i) ls o) (refused 6 i) ≡ listed ps → o ≡ listed ps
-      go true ih e = ih e
-      go false ih e = never (cc)
+-- where a test of the locations has passed, what follows it has
+pub passed-on : (n : ℕ) (test : ℕ → ℕ → Bool) (i : ℕ) (ls : List ℕ) (o : Outcome) (ps : List Packet) → unlessAt n test i ls o ≡ listed ps
+    → o ≡ listed ps
+passed-on n test i [] o ps e = e
+passed-on n test i (l ∷ []) o ps e = e
+passed-on n test i (l ∷ f ∷ ls) o ps e = go (test l f) (passed-on n test (suc i) ls o ps) e
+  where
+    go : (t : Bool) → (unlessAt n test (suc i) ls o ≡ listed ps → o ≡ listed ps)
+        → cond t (unlessAt n test (suc i) ls o) (refused n i) ≡ listed ps → o ≡ listed ps
+    go true ih e = ih e
+    go false ih e = never (cc)
 
+-- locations that stand and are allowed, each with its packet, are those packets' locations, and leave their words as they were
+module _ (y : System) where
   -- what the packets of a list are with these locations
   pub record Located (ls : List ℕ) (qs : List Packet) : Type 0 where
     pub locations : locations (located ls qs) ≡ ls
@@ -148,31 +157,34 @@ module _ (y : System) where
     pub count : length (located ls qs) ≡ length qs
     pub sound : All (Sound y) (located ls qs)
 
-  placed : (q : Packet) (l f : ℕ) → Sound y q → stands y l ≡ true → f < 4
+  placed : (q : Packet) (l f : ℕ) → Sound y q → allowed y l ≡ true → f < 4
       → Sound y (record { did = q .did; sdid = q .sdid; user = q .user; line = l; flags = f })
   placed q l f g h k = record { did = g .did; sdid = g .sdid; user = g .user; many = g .many; line = h; flags = k }
 
-  locate : (i : ℕ) (ls : List ℕ) (qs : List Packet) (o : Outcome) (ps : List Packet) → length ls ≡ 2 * length qs → All (Sound y) qs
-      → locationsStand y i ls o ≡ listed ps → Located ls qs
+  locate : (i : ℕ) (ls : List ℕ) (qs : List Packet) (o u : Outcome) (ps : List Packet) → length ls ≡ 2 * length qs → All (Sound y) qs
+      → unlessAt 6 (locationStands y) i ls o ≡ listed ps → unlessAt 20 (locationAllowed y) i ls u ≡ listed ps → Located ls qs
   unfolding words coded checkOf
-  locate i [] [] o ps h g e = record { locations = refl; words = refl; count = refl; sound = none }
-  locate i [] (q ∷ qs) o ps h g e = absurd (omega arith)
-  locate i (l ∷ []) [] o ps h g e = absurd (omega arith)
-  locate i (l ∷ []) (q ∷ qs) o ps h g e = absurd (omega arith)
-  locate i (l ∷ f ∷ ls) [] o ps h g e = absurd (omega arith)
-  locate i (l ∷ f ∷ ls) (q ∷ qs) o ps h (one g gs) e = go (stands y l && ltb f 4) refl (λ d. locate (suc i) ls qs o ps (omega arith) gs d) e
+  locate i [] [] o u ps h g d e = record { locations = refl; words = refl; count = refl; sound = none }
+  locate i [] (q ∷ qs) o u ps h g d e = absurd (omega arith)
+  locate i (l ∷ []) [] o u ps h g d e = absurd (omega arith)
+  locate i (l ∷ []) (q ∷ qs) o u ps h g d e = absurd (omega arith)
+  locate i (l ∷ f ∷ ls) [] o u ps h g d e = absurd (omega arith)
+  locate i (l ∷ f ∷ ls) (q ∷ qs) o u ps h (one g gs) d e =
+      go (locationStands y l f) refl (allowed y l) refl (locate (suc i) ls qs o u ps (omega arith) gs) d e
     where
-      go : (t : Bool) → (stands y l && ltb f 4) ≡ t → (locationsStand y (suc i) ls o ≡ listed ps → Located ls qs)
-          → cond t (locationsStand y (suc i) ls o) (refused 6 i) ≡ listed ps → Located (l ∷ f ∷ ls) (q ∷ qs)
-      go false d ih e = never (cc)
-      go true d ih e =
-          let w = ih e in
-          let v = both (stands y l) (ltb f 4) d in
+      go : (s : Bool) → locationStands y l f ≡ s → (a : Bool) → allowed y l ≡ a
+          → (unlessAt 6 (locationStands y) (suc i) ls o ≡ listed ps → unlessAt 20 (locationAllowed y) (suc i) ls u ≡ listed ps → Located ls qs)
+          → cond s (unlessAt 6 (locationStands y) (suc i) ls o) (refused 6 i) ≡ listed ps
+          → cond a (unlessAt 20 (locationAllowed y) (suc i) ls u) (refused 20 i) ≡ listed ps → Located (l ∷ f ∷ ls) (q ∷ qs)
+      go false k a m ih d e = never (cc)
+      go true k false m ih d e = never (cc)
+      go true k true m ih d e =
+          let w = ih d e in
           record {
             locations = ap (λ (t : List ℕ). l ∷ f ∷ t) (w .locations);
             words = ap (λ (t : List ℕ). Rattle.rules.specs.Packet.words q ++ t) (w .words);
             count = ap suc (w .count);
-            sound = one (placed q l f g (v .0) (ltb-true f 4 (v .1))) (w .sound);
+            sound = one (placed q l f g m (ltb-true f 4 (both (stands y l) (ltb f 4) k .1))) (w .sound);
           }
 
 -- a sheet is of the shape that document 01 gives: its own sections joined
@@ -221,13 +233,19 @@ list-laid s ps kn sh e = first (leb (countIn s) limit) refl e
     paired : List Packet → Outcome
     paired qs = unless 11 (eqb (length qs) (countIn s)) (listed (located ls qs))
 
-    last : (qs : List Packet) → WordsOf y (wordsIn s) qs → countIn s ≤ limit → locationsStand y 0 ls (paired qs) ≡ listed ps
+    onLines : Outcome → Outcome
+    onLines o = unlessAt 20 (locationAllowed y) 0 ls o
+
+    inRange : Outcome → Outcome
+    inRange o = unlessAt 6 (locationStands y) 0 ls (onLines o)
+
+    last : (qs : List Packet) → WordsOf y (wordsIn s) qs → countIn s ≤ limit → inRange (paired qs) ≡ listed ps → onLines (paired qs) ≡ listed ps
         → (t : Bool) → eqb (length qs) (countIn s) ≡ t → unless 11 t (listed (located ls qs)) ≡ listed ps → SheetOf (systemIn s) ps s
-    last qs w few e false q f = never (cc)
-    last qs w few e true q f =
+    last qs w few d e false q f = never (cc)
+    last qs w few d e true q f =
         let n : length qs ≡ countIn s = eqb-true (length qs) (countIn s) q in
         let sp = shape-of s sh in
-        let lo = locate y 0 ls qs (paired qs) ps (sp .1 ∙ ap (λ (k : ℕ). 2 * k) (sym n)) (w .sound) e in
+        let lo = locate y 0 ls qs (onLines (paired qs)) (paired qs) ps (sp .1 ∙ ap (λ (k : ℕ). 2 * k) (sym n)) (w .sound) d e in
         let a : countIn s ≡ length (located ls qs) = sym n ∙ sym (lo .count) in
         let b : ls ≡ locations (located ls qs) = sym (lo .locations) in
         let c : wordsIn s ≡ allWords (located ls qs) = w .whole ∙ sym (lo .words) in
@@ -240,13 +258,17 @@ list-laid s ps kn sh e = first (leb (countIn s) limit) refl e
           few = omega arith;
         })
 
-    words-of : (o : Outcome) → packetsOfWords (wordsIn s) ≡ o → countIn s ≤ limit → locationsStand y 0 ls (andThen o paired) ≡ listed ps
-        → SheetOf (systemIn s) ps s
-    words-of (refused n i) q few e = never (let z = stood y 0 ls (refused n i) ps e in cc)
-    words-of (listed qs) q few e =
-        last qs (words-laid y (wordsIn s) qs q) few e (eqb (length qs) (countIn s)) refl (stood y 0 ls (paired qs) ps e)
+    words-of : (o : Outcome) → packetsOfWords (wordsIn s) ≡ o → countIn s ≤ limit → inRange (andThen o paired) ≡ listed ps → SheetOf (systemIn s) ps s
+    words-of o q few d = go o q (passed-on 6 (locationStands y) 0 ls _ ps d) d
+      where
+        go : (o : Outcome) → packetsOfWords (wordsIn s) ≡ o → onLines (andThen o paired) ≡ listed ps → inRange (andThen o paired) ≡ listed ps
+            → SheetOf (systemIn s) ps s
+        go (refused n i) q e d = never (let z = passed-on 20 (locationAllowed y) 0 ls (refused n i) ps e in cc)
+        go (listed qs) q e d =
+            last qs (words-laid y (wordsIn s) qs q) few d e (eqb (length qs) (countIn s)) refl
+            (passed-on 20 (locationAllowed y) 0 ls (paired qs) ps e)
 
-    first : (t : Bool) → leb (countIn s) limit ≡ t → unless 5 t (locationsStand y 0 ls (andThen (packetsOfWords (wordsIn s)) paired)) ≡ listed ps
+    first : (t : Bool) → leb (countIn s) limit ≡ t → unless 5 t (inRange (andThen (packetsOfWords (wordsIn s)) paired)) ≡ listed ps
         → SheetOf (systemIn s) ps s
     first false q e = never (cc)
     first true q e = words-of (packetsOfWords (wordsIn s)) refl (leb-true (countIn s) limit q) e
@@ -314,9 +336,8 @@ all-small y [] g i = omega arith
 all-small y (p ∷ ps) (one g gs) i = append-below 65536 (words p) (allWords ps) (packet-small y p g) (all-small y ps gs) i
 
 locations-small : (y : System) (ps : List Packet) → y .last < 2047 → All (Sound y) ps → Sixteen (locations ps)
-unfolding stands
 locations-small y [] hm g i = omega arith
-locations-small y (p ∷ ps) hm (one g gs) zero = let w = leb-true (p .line) (y .last) (g .line) in omega arith
+locations-small y (p ∷ ps) hm (one g gs) zero = let w = allowed-last y (p .line) (g .line) in omega arith
 locations-small y (p ∷ ps) hm (one g gs) (suc zero) = let w = g .flags in omega arith
 locations-small y (p ∷ ps) hm (one g gs) (suc (suc i)) = locations-small y ps hm gs i
 
@@ -347,23 +368,24 @@ pub unless-from : (b m : ℕ) (t : Bool) (o : Outcome) (n k : ℕ) → (o ≡ re
 unless-from b m true o n k h l e = h e
 unless-from b m false o n k h l e = let z : m ≡ n = cc in omega arith
 
-stand-from : (b : ℕ) (y : System) (i : ℕ) (ls : List ℕ) (o : Outcome) (n k : ℕ) → (o ≡ refused n k → b ≤ n) → b ≤ 6
-    → locationsStand y i ls o ≡ refused n k → b ≤ n
-stand-from b y i [] o n k h l e = h e
-stand-from b y i (x ∷ []) o n k h l e = h e
-stand-from b y i (x ∷ f ∷ ls) o n k h l e = go (stands y x && ltb f 4) (stand-from b y (suc i) ls o n k h l) e
+at-from : (b m : ℕ) (test : ℕ → ℕ → Bool) (i : ℕ) (ls : List ℕ) (o : Outcome) (n k : ℕ) → (o ≡ refused n k → b ≤ n) → b ≤ m
+    → unlessAt m test i ls o ≡ refused n k → b ≤ n
+at-from b m test i [] o n k h l e = h e
+at-from b m test i (x ∷ []) o n k h l e = h e
+at-from b m test i (x ∷ f ∷ ls) o n k h l e = go (test x f) (at-from b m test (suc i) ls o n k h l) e
   where
-    go : (t : Bool) → (locationsStand y (suc i) ls o ≡ refused n k → b ≤ n)
-        → cond t (locationsStand y (suc i) ls o) (refused 6 i) ≡ refused n k → b ≤ n
+    go : (t : Bool) → (unlessAt m test (suc i) ls o ≡ refused n k → b ≤ n)
+        → cond t (unlessAt m test (suc i) ls o) (refused m i) ≡ refused n k → b ≤ n
     go true ih e = ih e
-    go false ih e = let z : 6 ≡ n = cc in omega arith
+    go false ih e = let z : m ≡ n = cc in omega arith
 
--- the tests of the list refuse with 5 to 11
+-- the tests of the list refuse with 5 to 11, and 20
 pub list-refused : (y : System) (s : List ℕ) (n k : ℕ) → listTests y s ≡ refused n k → 5 ≤ n
 unfolding listTests
 list-refused y s n k e =
     unless-from 5 5 (leb (countIn s) limit) _ n k
-    (stand-from 5 y 0 (locationsIn s) _ n k (words-of (packetsOfWords (wordsIn s)) refl) (omega arith))
+    (at-from 5 6 (locationStands y) 0 (locationsIn s) _ n k
+    (at-from 5 20 (locationAllowed y) 0 (locationsIn s) _ n k (words-of (packetsOfWords (wordsIn s)) refl) (omega arith)) (omega arith))
     (omega arith) e
   where
     words-of : (o : Outcome) → packetsOfWords (wordsIn s) ≡ o

@@ -9,17 +9,18 @@ use mathlib.Core.Bool.{Bool, true, false, cond, not, _&&_, _||_}
 use mathlib.Core.List.{List, [], _∷_, _++_, append-assoc}
 use native.Mathlib.Omega.{arith}
 use native.Mathlib.Numerals.{add-six, add-seven}
-use lib.Dec.{eqb, ltb, leb·zero}
+use lib.Dec.{eqb, ltb}
 use lib.ListN.{length, getD, take, drop, length-append}
 use lib.Seq.{length-take-le, split-at, take-append-seam, drop-at, getD-append-seam}
-use borrow.Author.Tests.{ltb-true, ltb-false, leb-true, eqb-true, lt-ltb, le-ltb, eq-eqb, ne-eqb, not-false}
+use borrow.Author.Tests.{ltb-true, ltb-false, eqb-true, lt-ltb, le-ltb, eq-eqb, ne-eqb}
 use Rattle.rules.specs.Base.{allIs, Bytes, All}
-use Rattle.rules.specs.Systems.{System, stands}
+use Rattle.rules.specs.Systems.{System, stands, allowed}
 use Rattle.rules.specs.Packet.{Packet, checkOf}
 use Rattle.rules.specs.Danc.{Item, Good, packetsOf, header, danc, string, bytesOf, stringBytes}
 use Rattle.rules.specs.Numbers.{listed, refused, packetsIn}
 use Rattle.rules.specs.Reading.{lineIn, lineOf, flagsOf, packetOfBytes, lineFault, bytesFault, stringFault, stringEnds, stringRow}
 use Rattle.rules.proofs.Basics.{never, neither, second-false, chosen, take-bytes, later-bytes}
+use Rattle.rules.proofs.Lines.{allowed-stands, allowed-last}
 use Rattle.rules.proofs.Rows.{Anything, Cut, Over, row-read, row-over-read, row-laid, row-over-laid}
 
 -- ---- header bytes: what is written comes back
@@ -100,8 +101,7 @@ module _ (y : System) (hm : y .last < 2047) (x : Item) (r : List ℕ) (g : Good 
   tail = (p .user ++ (checkOf p % 256 ∷ [])) ++ r
 
   on-line : p .line ≤ y .last
-  unfolding stands
-  on-line = leb-true (p .line) (y .last) (g .sound .line)
+  on-line = allowed-last y (p .line) (g .sound .line)
 
   user-back : take (length (p .user)) tail ≡ p .user
   user-back = rw append-assoc (take-append-seam (p .user) _)
@@ -128,7 +128,10 @@ module _ (y : System) (hm : y .last < 2047) (x : Item) (r : List ℕ) (g : Good 
         check-back,
         bytes-packet,
         eq-eqb (checkOf p % 256) (checkOf p % 256) refl,
-        line-fine y (x .junk) (p .line) (x .bits) (p .flags) (g .junk) on-line hm (g .bits) (g .sound .flags) (eqb (p .line) 0) refl (g .sound .line),
+        line-fine y (x .junk) (p .line) (x .bits) (p .flags) (g .junk) on-line hm (g .bits) (g .sound .flags) (eqb (p .line) 0) refl
+            (allowed-stands y (p .line) (g .sound .line)),
+        line-back y (x .junk) (p .line) (x .bits) (p .flags) (g .junk) on-line hm (g .bits) (g .sound .flags) (eqb (p .line) 0) refl,
+        g .sound .line,
       )
 
   pub bytes-rest : drop (getD s 5 0 + 7) s ≡ r
@@ -174,12 +177,6 @@ module _ (y : System) (a b c : ℕ) (ha : a < 256) (hb : b < 256) (fine : lineFa
   flags-in : flagsOf b < 4
   flags-in = omega arith
 
-  -- LE is 1 on a line of the frame
-  line-in : (t : Bool) → (not t && (eqb (lineIn a b) 0 || not (stands y (lineIn a b)))) ≡ false → stands y (cond t 0 (lineIn a b)) ≡ true
-  unfolding stands
-  line-in true o = leb·zero (y .last)
-  line-in false o = not-false (stands y (lineIn a b)) (neither (eqb (lineIn a b) 0) (not (stands y (lineIn a b))) o .1)
-
   le-in : (t : Bool) → ltb a 128 ≡ t → (not t && (eqb (lineIn a b) 0 || not (stands y (lineIn a b)))) ≡ false
       → h0 (eqb (cond t 0 (lineIn a b)) 0) (cond t (lineIn a b) 0) (cond t 0 (lineIn a b)) ≡ a
   le-in true e o = let l : a < 128 = ltb-true a 128 e in omega arith
@@ -203,10 +200,11 @@ module _ (y : System) (a b c : ℕ) (ha : a < 256) (hb : b < 256) (fine : lineFa
   rest-in true o = parts
   rest-in false o = rw (neither (eqb (lineIn a b) 0) (not (stands y (lineIn a b))) o .0) parts
 
-passed : (a b : Bool) → _≡_ {A = ℕ} (cond (not a) 15 (cond b 16 0)) 0 → (a ≡ true) × (b ≡ false)
-passed false b e = absurd (omega arith)
-passed true true e = absurd (omega arith)
-passed true false e = (refl, refl)
+passed : (a b c : Bool) → _≡_ {A = ℕ} (cond (not a) 15 (cond b 16 (cond (not c) 20 0))) 0 → (a ≡ true) × (b ≡ false) × (c ≡ true)
+passed false b c e = absurd (omega arith)
+passed true true c e = absurd (omega arith)
+passed true false false e = absurd (omega arith)
+passed true false true e = (refl, refl, refl)
 
 -- the item that bytes show: their packet, and the bits that a reader disregards
 abbrev pub itemOf : ℕ → List ℕ → Item
@@ -230,7 +228,7 @@ module _ (y : System) (a b c d e n : ℕ) (t : List ℕ) (f : ℕ) (hf : f < 256
   item-whole : bytesFault y B ≡ 0 → (B ≡ danc (itemOf f B) ++ drop (n + 7) B) × Good y (itemOf f B)
   unfolding bytesFault danc header
   item-whole z =
-      let w = passed (eqb (getD B (n + 6) 0) (checkOf q % 256)) (lineFault y a b) z in
+      let w = passed (eqb (getD B (n + 6) 0) (checkOf q % 256)) (lineFault y a b) (allowed y (lineOf a b)) z in
       let k : length (take n t) ≡ n = length-take-le n t (omega arith) in
       let m : getD t n 0 ≡ getD B (n + 6) 0 = rw (add-six n) in
       let cs : getD t n 0 ≡ checkOf q % 256 = m ∙ eqb-true (getD B (n + 6) 0) (checkOf q % 256) (w .0) in
@@ -250,7 +248,7 @@ module _ (y : System) (a b c d e n : ℕ) (t : List ℕ) (f : ℕ) (hf : f < 256
                 sdid = hs 4;
                 many = subst (λ (k : ℕ). k < 256) (sym k) (hs 5);
                 user = take-bytes n t (λ i. hs (suc (suc (suc (suc (suc (suc i)))))));
-                line = line-in y a b c (hs 0) (hs 1) (w .1) (ltb a 128) (w .1);
+                line = w .2;
                 flags = flags-in y a b c (hs 0) (hs 1) (w .1);
               };
           bits = omega arith;
@@ -287,18 +285,18 @@ string-uncut y room s h z = go (ltb (length s) 7) refl (ltb (length s) (getD s 5
 
 -- ---- the numbers of faults
 
--- what holds of 15, 16, and 0 for none, holds of the fault of a packet's bytes
-pub bytes-faults : (P : ℕ → Type 0) → P 0 → P 15 → P 16 → (y : System) (s : List ℕ) → P (bytesFault y s)
+-- what holds of 15, 16, 20, and 0 for none, holds of the fault of a packet's bytes
+pub bytes-faults : (P : ℕ → Type 0) → P 0 → P 15 → P 16 → P 20 → (y : System) (s : List ℕ) → P (bytesFault y s)
 unfolding bytesFault
-bytes-faults P p0 p15 p16 y s =
-    chosen P (not (eqb (getD s (getD s 5 0 + 6) 0) (checkOf (packetOfBytes s) % 256))) 15 (cond (lineFault y (getD s 0 0) (getD s 1 0)) 16 0) p15
-    (chosen P (lineFault y (getD s 0 0) (getD s 1 0)) 16 0 p16 p0)
+bytes-faults P p0 p15 p16 p20 y s =
+    chosen P (not (eqb (getD s (getD s 5 0 + 6) 0) (checkOf (packetOfBytes s) % 256))) 15 _ p15
+    (chosen P (lineFault y (getD s 0 0) (getD s 1 0)) 16 _ p16 (chosen P (not (allowed y (lineOf (getD s 0 0) (getD s 1 0)))) 20 0 p20 p0))
 
 -- and what holds of 14 too, of the fault of a string's first packet
-pub string-faults : (P : ℕ → Type 0) → P 0 → P 14 → P 15 → P 16 → (y : System) (s : List ℕ) → P (stringFault y s)
+pub string-faults : (P : ℕ → Type 0) → P 0 → P 14 → P 15 → P 16 → P 20 → (y : System) (s : List ℕ) → P (stringFault y s)
 unfolding stringFault
-string-faults P p0 p14 p15 p16 y s =
-    chosen P (ltb (length s) 7 || ltb (length s) (getD s 5 0 + 7)) 14 (bytesFault y s) p14 (bytes-faults P p0 p15 p16 y s)
+string-faults P p0 p14 p15 p16 p20 y s =
+    chosen P (ltb (length s) 7 || ltb (length s) (getD s 5 0 + 7)) 14 (bytesFault y s) p14 (bytes-faults P p0 p15 p16 p20 y s)
 
 -- ---- a string
 
@@ -354,7 +352,8 @@ pub string-over-laid : (y : System) (room left i : ℕ) (s : List ℕ) (k : ℕ)
 unfolding stringRow
 string-over-laid y room left i s k h e =
     row-over-laid (stringRow y room) danc (λ (x : Item). x .packet) (Good y) Bytes (λ x r b. later-bytes (danc x) r b) (string-uncut y room)
-    left i s 5 k h (string-faults (λ (n : ℕ). n ≡ 5 → ⊥) (λ z. omega arith) (λ z. omega arith) (λ z. omega arith) (λ z. omega arith) y) e
+    left i s 5 k h
+    (string-faults (λ (n : ℕ). n ≡ 5 → ⊥) (λ z. omega arith) (λ z. omega arith) (λ z. omega arith) (λ z. omega arith) (λ z. omega arith) y) e
 
 -- from one list only
 pub string-unique : (y : System) → y .last < 2047 → (room left : ℕ) (s : List ℕ) (ps qs : List Packet) → StringOf y room left s ps

@@ -8,18 +8,19 @@ use mathlib.Core.Bool.{Bool, true, false, cond, not, _&&_, _||_, and-assoc}
 use mathlib.Core.List.{List, [], _∷_, _++_, map, append-assoc, append-nil}
 use native.Mathlib.Omega.{arith}
 use native.Mathlib.Numerals.{add-three, add-seven}
-use lib.Dec.{eqb, ltb, leb·zero}
+use lib.Dec.{eqb, ltb}
 use lib.ListN.{length, getD, take, drop, length-append, length-map}
 use lib.Seq.{length-take-le, split-at, getD-drop, getD-at, take-at, drop-at}
 use borrow.Author.Tests.{ltb-false, eqb-true, le-ltb, eq-eqb}
 use Rattle.rules.specs.Base.{Bytes, All, none, one}
-use Rattle.rules.specs.Systems.{System, stands}
+use Rattle.rules.specs.Systems.{System}
 use Rattle.rules.specs.Packet.{Packet, body, ones, parity, word, check, coded, checkOf, words, Sound}
 use Rattle.rules.specs.Danc.{bytesOf, stringBytes}
 use Rattle.rules.specs.Sheet.{allWords}
 use Rattle.rules.specs.Numbers.{listed, refused, packetsIn}
 use Rattle.rules.specs.Laying.{isWord, areWords, flagged, low, dcIn, wordsFault, packetOfWords, noWords, wordRow, packetsOfWords}
 use Rattle.rules.proofs.Basics.{never, both}
+use Rattle.rules.proofs.Lines.{allowed-none}
 use Rattle.rules.proofs.Rows.{Anything, row-read, row-laid, row-enough, row-fault}
 
 -- ---- a byte's word
@@ -161,7 +162,7 @@ module _ (x y z a b n : ℕ) (t : List ℕ) where
   p = packetOfWords W
 
   fine-words : (sys : System) → wordsFault W ≡ 0 → (W ≡ words p ++ drop (dcIn W + 7) W) × Sound sys p
-  unfolding wordsFault words coded checkOf stands
+  unfolding wordsFault words coded checkOf
   fine-words sys e =
       let w =
       passed (ltb (length W) 7) (flagged W) (areWords (take 3 (drop 3 W))) (ltb (length W) (dcIn W + 7)) (areWords (take (dcIn W) (drop 6 W)))
@@ -197,7 +198,7 @@ module _ (x y z a b n : ℕ) (t : List ℕ) where
           sdid = omega arith;
           many = let m : low n < 256 = omega arith in omega arith;
           user = low-bytes (take (low n) t);
-          line = leb·zero (sys .last);
+          line = allowed-none sys;
           flags = omega arith;
         },
       )
@@ -255,8 +256,7 @@ bare-words [] = refl
 bare-words (p ∷ ps) = ap (λ (t : List ℕ). words p ++ t) (bare-words ps)
 
 bare-one : (y : System) (p : Packet) → Sound y p → Sound y (bare p)
-unfolding stands
-bare-one y p g = record { did = g .did; sdid = g .sdid; many = g .many; user = g .user; line = leb·zero (y .last); flags = omega arith }
+bare-one y p g = record { did = g .did; sdid = g .sdid; many = g .many; user = g .user; line = allowed-none y; flags = omega arith }
 
 bare-sound : (y : System) (ps : List Packet) → All (Sound y) ps → All (Sound y) (bares ps)
 bare-sound y [] g = none

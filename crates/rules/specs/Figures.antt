@@ -1,12 +1,12 @@
--- "Worked figures": the starred lines as one table, some of A2's, and the table of "Three systems". A row has what the definitions
--- give, and what document 01 states, or A2. That the two columns agree is proved in proofs/Figures.
+-- "Worked figures": the starred lines as one table, some of A2's and A3's, and the table of "Three systems". A row has what the definitions
+-- give, and what document 01 states, or A2, or 003. That the two columns agree is proved in proofs/Figures.
 -- Assumes nothing.
-use Prim.Native.Nat.{ℕ}
-use mathlib.Core.Bool.{Bool, true, false, _&&_}
+use Prim.Native.Nat.{ℕ, zero, suc, _+_, _*_, _/_}
+use mathlib.Core.Bool.{Bool, true, false, cond, _&&_}
 use mathlib.Core.List.{List, [], _∷_, _++_}
 use lib.Dec.{eqb}
 use lib.ListN.{set, take, drop}
-use Rattle.rules.specs.Systems.{System, system}
+use Rattle.rules.specs.Systems.{System, system, allowed}
 use Rattle.rules.specs.Packet.{Packet, words}
 use Rattle.rules.specs.Danc.{written, header, danc}
 use Rattle.rules.specs.Blocks.{blockSizes, areaSize}
@@ -86,6 +86,35 @@ faults =
     ∷ line (judgedLine (take 8 (words p))) (9 ∷ 8 ∷ 0 ∷ [])
     ∷ line (judgedLine (set (words p) 8 0x2D8)) (10 ∷ 8 ∷ 0 ∷ [])
     ∷ line (refusedLine (1 ∷ 1 ∷ 2 ∷ 9 ∷ 0 ∷ 9 ∷ 0 ∷ 18 ∷ words p ++ set (words p) 8 0x2D8)) (10 ∷ 1 ∷ 8 ∷ [])
+    ∷ []
+
+-- A3: what the lister's tests say of a sheet with p on these lines, number, place and word: "Line 127 becomes refused; 561 and no line stay"
+abbrev pub onLines : ℕ → ℕ → ℕ → List ℕ
+onLines first second flags = refusedLine (1 ∷ 1 ∷ 2 ∷ first ∷ 0 ∷ second ∷ flags ∷ 18 ∷ words p ++ words p)
+
+unfoldable pub pictureLines : List Line
+pictureLines =
+    line (onLines 561 0 0) (0 ∷ 0 ∷ 0 ∷ [])
+    ∷ line (onLines 561 127 0) (20 ∷ 1 ∷ 0 ∷ [])
+    ∷ line (onLines 127 1126 0) (6 ∷ 1 ∷ 0 ∷ [])
+    ∷ line (onLines 127 9 4) (6 ∷ 1 ∷ 0 ∷ [])
+    ∷ []
+
+-- how many of the lines 1 to n are allowed, and the words that they have in a second, in thousands and rounded: luma and colour difference
+-- samples of a line, frames in 1,001 seconds
+abbrev pub allowedTo : System → ℕ → ℕ
+allowedTo y zero = 0
+allowedTo y (suc n) = cond (allowed y (suc n)) 1 0 + allowedTo y n
+
+abbrev pub vancOf : System → ℕ → ℕ → List ℕ
+vancOf y samples frames = let n : ℕ = allowedTo y (y .last) in n ∷ (n * 2 * samples * frames / 1001 + 500) / 1000 ∷ []
+
+-- 003, table 3a, "VANC interval word rate": "4.718" of 60I, "3.936" of 50I, "4.297" of 60P (MWord/sec)
+unfoldable pub wordRates : List Line
+wordRates =
+    line (vancOf (system 1) 1920 30000) (41 ∷ 4718 ∷ [])
+    ∷ line (vancOf (system 2) 1920 25025) (41 ∷ 3936 ∷ [])
+    ∷ line (vancOf (system 3) 1280 60000) (28 ∷ 4297 ∷ [])
     ∷ []
 
 -- a row of "Three systems", computed from the blocks: sequences, last line, area bytes, packs of 5, string capacity; and the blocks,

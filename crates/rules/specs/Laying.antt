@@ -1,13 +1,14 @@
 -- "Numbers given back": the tests of a sheet, and what laying gives back.
 --
--- In order: the words of a packet (7 to 10); the word that is named; the sheet (2, 5, 6, 11); the lister's tests; laying's (1, 4, 12); its answer.
+-- In order: the words of a packet (7 to 10); the word that is named; the sheet (2, 5, 6, 20, 11); the lister's tests; laying's (1, 4, 12);
+-- its answer.
 -- Assumes nothing.
 use Prim.Native.Nat.{ℕ, zero, suc, _+_, _*_, _%_}
 use mathlib.Core.Bool.{Bool, true, false, cond, not, _&&_, _||_}
 use mathlib.Core.List.{List, [], _∷_, map}
 use lib.Dec.{eqb, ltb, leb}
 use lib.ListN.{length, getD, take, drop}
-use Rattle.rules.specs.Systems.{System, known, system, stands}
+use Rattle.rules.specs.Systems.{System, known, system, stands, allowed}
 use Rattle.rules.specs.Packet.{Packet, word, check}
 use Rattle.rules.specs.Danc.{stringBytes}
 use Rattle.rules.specs.Sheet.{limit, systemIn, countIn, locationsIn, wordCountIn, wordsIn}
@@ -122,11 +123,19 @@ unfoldable pub shaped : List ℕ → Bool
 shaped s =
     eqb (getD s 0 0) 1 && (leb (4 + 2 * countIn s) (length s) && eqb (length s) (4 + 2 * countIn s + wordCountIn s))
 
--- "6 | line or flags out of range | location"; the first at fault is named
-abbrev pub locationsStand : System → ℕ → List ℕ → Outcome → Outcome
-locationsStand y i [] o = o
-locationsStand y i (line ∷ []) o = o
-locationsStand y i (line ∷ flags ∷ ls) o = cond (stands y line && ltb flags 4) (locationsStand y (suc i) ls o) (refused 6 i)
+-- refusal n, with the location, unless the test holds of every line and its flags; the first at fault is named
+abbrev pub unlessAt : ℕ → (ℕ → ℕ → Bool) → ℕ → List ℕ → Outcome → Outcome
+unlessAt n test i [] o = o
+unlessAt n test i (line ∷ []) o = o
+unlessAt n test i (line ∷ flags ∷ ls) o = cond (test line flags) (unlessAt n test (suc i) ls o) (refused n i)
+
+-- "6 | line or flags out of range | location"
+abbrev pub locationStands : System → ℕ → ℕ → Bool
+locationStands y line flags = stands y line && ltb flags 4
+
+-- "20, with its location .., a line in the frame that isn't allowed" (document 02, A3)
+abbrev pub locationAllowed : System → ℕ → ℕ → Bool
+locationAllowed y line flags = allowed y line
 
 -- "Packet k belongs to location k."
 abbrev pub located : List ℕ → List Packet → List Packet
@@ -136,15 +145,16 @@ located (line ∷ flags ∷ ls) [] = []
 located (line ∷ flags ∷ ls) (p ∷ ps) =
     record { did = p .did; sdid = p .sdid; user = p .user; line = line; flags = flags } ∷ located ls ps
 
--- 5, 6, then packet by packet 7 to 10, then "11 | packets and locations differ in number"
+-- 5, 6, "after 6 on all locations" 20, then packet by packet 7 to 10, then "11 | packets and locations differ in number"
 unfoldable pub listTests : System → List ℕ → Outcome
 listTests y s =
     unless 5 (leb (countIn s) limit)
-    (locationsStand y 0 (locationsIn s)
+    (unlessAt 6 (locationStands y) 0 (locationsIn s)
+    (unlessAt 20 (locationAllowed y) 0 (locationsIn s)
     (andThen (packetsOfWords (wordsIn s))
-    (λ (ps : List Packet). unless 11 (eqb (length ps) (countIn s)) (listed (located (locationsIn s) ps)))))
+    (λ (ps : List Packet). unless 11 (eqb (length ps) (countIn s)) (listed (located (locationsIn s) ps))))))
 
--- "the tests 2, 3, 5 to 11"
+-- "the tests 2, 3, 5 to 11", 20 among them
 unfoldable pub sheetTests : List ℕ → Outcome
 sheetTests s =
     unless 2 (shaped s)
@@ -153,7 +163,7 @@ sheetTests s =
 
 -- ---- laying
 
--- "Laying tests 1 to 6 in table order. Then packet by packet: .. Then 11, 12."
+-- "Laying tests 1 to 6 in table order. Then packet by packet: .. Then 11, 12." 20 stands behind 6
 unfoldable pub laying : ℕ → List ℕ → List ℕ → Outcome
 laying k s area =
     unless 1 (isPacking k)

@@ -8,7 +8,7 @@ use mathlib.Core.Bool.{true}
 use mathlib.Core.List.{List, [], _∷_, _++_, map}
 use lib.ListN.{length}
 use Rattle.rules.specs.Base.{Bytes}
-use Rattle.rules.specs.Systems.{System, stands}
+use Rattle.rules.specs.Systems.{System, allowed}
 
 -- what a packet says, and where it belongs: DID, SDID or DBN, the user bytes; its line (0 for none) and flags ("bit 0 is FI,
 -- bit 1 is YCF")
@@ -56,11 +56,12 @@ unfoldable pub words : Packet → List ℕ
 words p = 0x000 ∷ 0x3FF ∷ 0x3FF ∷ coded p ++ checkOf p ∷ []
 
 -- "A packet is sound when all this holds and its line and flags are in the sheet's ranges; a list is sound when all its packets
--- are." The words of a packet are as above by their definition; what is left is that they are bytes, and the ranges
+-- are." The words of a packet are as above by their definition; what is left is that they are bytes, and the ranges; "sound" is read with
+-- the lines that are allowed (document 02, A3)
 pub record Sound (y : System) (p : Packet) : Type 0 where
   pub did : p .did < 256
   pub sdid : p .sdid < 256
   pub many : length (p .user) < 256
   pub user : Bytes (p .user)
-  pub line : stands y (p .line) ≡ true
+  pub line : allowed y (p .line) ≡ true
   pub flags : p .flags < 4

@@ -1,6 +1,6 @@
 -- "Numbers given back": the tests of an area, and what reading gives back.
 --
--- In order: a packet's bytes (15, 16); a string (14); packs of 5 (13, 14); user bytes (13); the area (3, 4, 17); the answer.
+-- In order: a packet's bytes (15, 16, 20); a string (14); packs of 5 (13, 14); user bytes (13); the area (3, 4, 17); the answer.
 -- Assumes nothing.
 use Prim.Native.Nat.{ℕ, suc, _+_, _*_, _/_, _%_}
 use mathlib.Core.Bool.{Bool, true, false, cond, not, _&&_, _||_}
@@ -8,7 +8,7 @@ use mathlib.Core.List.{List, [], _∷_, _++_}
 use lib.Dec.{eqb, ltb, leb}
 use lib.ListN.{length, getD, take, drop}
 use Rattle.rules.specs.Base.{allIs}
-use Rattle.rules.specs.Systems.{System, known, system, stands}
+use Rattle.rules.specs.Systems.{System, known, system, stands, allowed}
 use Rattle.rules.specs.Packet.{Packet, checkOf}
 use Rattle.rules.specs.Sheet.{limit, sheetOf}
 use Rattle.rules.specs.Blocks.{areaSize, blockSizes, userBytesIn}
@@ -45,16 +45,17 @@ packetOfBytes s =
 abbrev pub lineFault : System → ℕ → ℕ → Bool
 lineFault y h0 h1 = not (ltb h0 128) && (eqb (lineIn h0 h1) 0 || not (stands y (lineIn h0 h1)))
 
--- "15 | stored CS byte is not the sum's low byte", then 16
+-- "15 | stored CS byte is not the sum's low byte", then 16, then "20 .., a line in the frame that isn't allowed" (document 02, A3)
 unfoldable pub bytesFault : System → List ℕ → ℕ
 bytesFault y s =
     cond (not (eqb (getD s (getD s 5 0 + 6) 0) (checkOf (packetOfBytes s) % 256))) 15
     (cond (lineFault y (getD s 0 0) (getD s 1 0)) 16
-    0)
+    (cond (not (allowed y (lineOf (getD s 0 0) (getD s 1 0)))) 20
+    0))
 
 -- ---- a string
 
--- "14 is given if fewer than 7 or fewer than DC + 7 bytes remain", then 15, 16
+-- "14 is given if fewer than 7 or fewer than DC + 7 bytes remain", then 15, 16, 20
 unfoldable pub stringFault : System → List ℕ → ℕ
 stringFault y s = cond (ltb (length s) 7 || ltb (length s) (getD s 5 0 + 7)) 14 (bytesFault y s)
 
@@ -87,7 +88,7 @@ frontBytes (p ∷ ps) = p .b2 ∷ p .b3 ∷ p .b4 ∷ carried (take (lead ps) ps
 abbrev pub carriersFit : ℕ → List ℕ → Bool
 carriersFit n s = eqb n (carriersFor (getD s 5 0)) && allIs 0xFF (drop (getD s 5 0 + 7) s)
 
--- 14, 15, 16. (Where 13 has passed, what is not the end begins with a starter.)
+-- 14, 15, 16, 20. (Where 13 has passed, what is not the end begins with a starter.)
 unfoldable pub packsFault : System → List Five → ℕ
 packsFault y [] = 14
 packsFault y (p ∷ ps) =
@@ -125,7 +126,7 @@ packetsOfOpened y (opened s room) = packetsIn (stringRow y room) limit 0 s
 packetsOfOpened y shut = refused 13 0
 
 -- "Refusal 13 is given unless one of these holds. The first user byte in laying order is FFh and so is every other. Or it is E1h,
--- .. Or it is E3h, .." Then "packet by packet 5 (only a [1,276th]), 14, 15, 16"
+-- .. Or it is E3h, .." Then "packet by packet 5 (only a [1,276th]), 14, 15, 16" and 20
 unfoldable pub packetsOfUserBytes : System → List ℕ → List ℕ → Outcome
 packetsOfUserBytes y sizes ub =
     cond (eqb (firstByte ub) 0xFF) (unless 13 (allIs 0xFF ub) (listed []))

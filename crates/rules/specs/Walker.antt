@@ -1,5 +1,6 @@
 -- "The walker": "Each step gives the next packet's place and length, the string's end, or 14, 15 or 16, tested in that order, for
--- that packet." A packet is number 0, its place, its length; the end is number 0, the place, length 0.
+-- that packet", and "after each packet's 16" 20 (document 02, A3). A packet is number 0, its place, its length; the end is number 0, the
+-- place, length 0.
 -- Assumes nothing.
 use Prim.Native.Nat.{ℕ, zero, suc, _+_}
 use mathlib.Core.Bool.{cond}
