@@ -1,7 +1,7 @@
 //! Cases: what a call is given, and how the calls are shared out.
 
 use crate::random::Random;
-use crate::rules::{self, system, System, FORMER_LIMIT, MOST_PACKETS};
+use crate::rules::{self, system, system_before_a3, System, Systems, FORMER_LIMIT, MOST_PACKETS};
 use crate::{element, element_read_cases, element_write_cases, lay_cases, packet, packet_cases, read_cases, walk_cases};
 
 /// What a call is given.
@@ -56,31 +56,40 @@ impl Call {
         }
     }
 
-    /// The answer by document 01 and the requests A1, A2 and A6.
+    /// The answer by document 01 and the requests A1, A2, A3 and A6.
     pub fn expected(&self) -> Answer {
+        self.expected_by(system)
+    }
+
+    /// The answer without test 20.
+    pub fn expected_before_a3(&self) -> Answer {
+        self.expected_by(system_before_a3)
+    }
+
+    fn expected_by(&self, systems: Systems) -> Answer {
         let mut answer = Answer { fields: [0; 5], changed: 0, bytes: Vec::new(), buffer: Vec::new() };
         match self {
             Call::Lay { sheet, packing, area } => {
-                let laid = rules::lay(sheet, *packing, area);
+                let laid = rules::lay_by(systems, sheet, *packing, area);
                 answer.fields = [laid.number, laid.place, laid.word, laid.packs, laid.bytes];
                 answer.bytes = laid.area;
             }
             Call::Read { system, area, buffer } => {
-                let back = rules::read(*system, area, buffer);
+                let back = rules::read_by(systems, *system, area, buffer);
                 answer.fields = [back.number, back.place, back.packing, back.packets, back.numbers];
                 answer.buffer = back.buffer;
             }
             Call::Walk { system, string, place } => {
-                let step = rules::walk(*system, string, *place);
+                let step = rules::walk_by(systems, *system, string, *place);
                 answer.fields = [step.number, step.place, step.length, 0, 0];
             }
             Call::MxfWrite { sheet, fi, element } => {
-                let written = element::write(sheet, *fi, element);
+                let written = element::write_by(systems, sheet, *fi, element);
                 answer.fields = [written.number, written.place, written.word, written.packets, written.bytes];
                 answer.bytes = written.element;
             }
             Call::MxfRead { system, fi, element, buffer } => {
-                let back = element::read(*system, *fi, element, buffer);
+                let back = element::read_by(systems, *system, *fi, element, buffer);
                 answer.fields = [back.number, back.place, back.packets, back.numbers, 0];
                 answer.buffer = back.buffer;
             }

@@ -2,7 +2,7 @@
 //! ST 436-1 where that is named.
 
 use crate::packet::{sheet, Packet};
-use crate::rules::{listed, refuse_if, system, Refusal, SheetRefusal, System, MOST_PACKETS};
+use crate::rules::{listed, refuse_if, system, Refusal, SheetRefusal, System, Systems, MOST_PACKETS};
 
 /// What writing an element gives back, and the element buffer after it.
 pub struct Written {
@@ -65,10 +65,14 @@ pub fn serves(system: &System, fi: bool, packet: &Packet) -> bool {
 
 // Writing.
 
-/// On refusal the later figures are 0: "target unchanged". On success the buffer past the element is unchanged.
 pub fn write(sheet: &[u16], fi: bool, buffer: &[u8]) -> Written {
+    write_by(system, sheet, fi, buffer)
+}
+
+/// On refusal the later figures are 0: "target unchanged". On success the buffer past the element is unchanged.
+pub fn write_by(systems: Systems, sheet: &[u16], fi: bool, buffer: &[u8]) -> Written {
     let mut written = Written { number: 0, place: 0, word: 0, packets: 0, bytes: 0, element: buffer.to_vec() };
-    match writing(sheet, fi, buffer.len()) {
+    match writing(systems, sheet, fi, buffer.len()) {
         Err(refusal) => (written.number, written.place, written.word) = (refusal.number, refusal.place, refusal.word),
         Ok((packets, element)) => {
             written.element[..element.len()].copy_from_slice(&element);
@@ -80,8 +84,8 @@ pub fn write(sheet: &[u16], fi: bool, buffer: &[u8]) -> Written {
 }
 
 /// How many packets are served, and the element. "On export the lister's, 18, with the packet, for one served without a line, 17".
-fn writing(sheet: &[u16], fi: bool, room: usize) -> Result<(usize, Vec<u8>), SheetRefusal> {
-    let (system, packets) = listed(sheet)?;
+fn writing(systems: Systems, sheet: &[u16], fi: bool, room: usize) -> Result<(usize, Vec<u8>), SheetRefusal> {
+    let (system, packets) = listed(systems, sheet)?;
     let mut served = Vec::new();
     // The packet's number counts those that are passed over.
     for (k, packet) in packets.into_iter().enumerate() {
@@ -124,10 +128,14 @@ pub fn structure(system: &System, packet: &Packet) -> Vec<u8> {
 
 // Reading.
 
-/// On refusal the later figures are 0: "target unchanged". On success the buffer past the sheet is unchanged.
 pub fn read(system_number: u64, fi: bool, element: &[u8], buffer: &[u16]) -> ElementRead {
+    read_by(system, system_number, fi, element, buffer)
+}
+
+/// On refusal the later figures are 0: "target unchanged". On success the buffer past the sheet is unchanged.
+pub fn read_by(systems: Systems, system_number: u64, fi: bool, element: &[u8], buffer: &[u16]) -> ElementRead {
     let mut back = ElementRead { number: 0, place: 0, packets: 0, numbers: 0, buffer: buffer.to_vec() };
-    match reading(system_number, fi, element, buffer.len()) {
+    match reading(systems, system_number, fi, element, buffer.len()) {
         Err((number, place)) => (back.number, back.place) = (number, place),
         Ok(packets) => {
             let sheet = sheet(system_number, &packets);
@@ -140,10 +148,13 @@ pub fn read(system_number: u64, fi: bool, element: &[u8], buffer: &[u16]) -> Ele
 }
 
 /// The packets. "On reading 3, 19 an element not of this form or a line outside the frame, with the position of the first byte at fault,
-/// 5, 17 (W over 65,535 too)".
-fn reading(system_number: u64, fi: bool, element: &[u8], room: usize) -> Result<Vec<Packet>, Refusal> {
-    let system = system(system_number).ok_or((3, 0))?;
+/// 5, 17 (W over 65,535 too)". Request A3: "MXF reading after 19", which is looked for in the whole element.
+fn reading(systems: Systems, system_number: u64, fi: bool, element: &[u8], room: usize) -> Result<Vec<Packet>, Refusal> {
+    let system = systems(system_number).ok_or((3, 0))?;
     let packets = packets_of_element(&system, fi, element)?;
+    for (k, packet) in packets.iter().enumerate() {
+        refuse_if(!system.allows(packet.line), 20, k)?;
+    }
     refuse_if(packets.len() > MOST_PACKETS, 5, MOST_PACKETS)?;
     // Each packet has the flag's three words and CS beside its samples.
     let words: usize = packets.iter().map(|packet| packet.bytes.len() + 4).sum();

@@ -1,6 +1,7 @@
 //! Padding, and faults in elements: in a structure, or in the whole.
 
 use crate::element::{HEAD, KEY};
+use crate::lines::picture_line;
 use crate::random::Random;
 use crate::rules::{System, MOST_PACKETS};
 
@@ -72,7 +73,7 @@ pub fn put_structure_fault(random: &mut Random, structures: &mut [Vec<u8>], syst
     if structure.len() < ARRAY + 3 {
         return "structure cut";
     }
-    match random.weighted(&[14, 8, 8, 16, 24, 8, 12, 6, 4]) {
+    match random.weighted(&[14, 8, 8, 16, 24, 8, 12, 6, 4, 22]) {
         0 => {
             let (line, last) = (two(structure, LINE), system.last_line);
             put_two(
@@ -108,9 +109,16 @@ pub fn put_structure_fault(random: &mut Random, structures: &mut [Vec<u8>], syst
             structure.truncate(random.between(0, structure.len() - 1));
             "structure cut"
         }
-        _ => {
+        8 => {
             structure.insert(random.below(structure.len()), random.pick(&[0x00, 0xFF, 0x01]));
             "byte too many"
+        }
+        _ => {
+            // A line may also be a picture line by one bit of it.
+            let (line, bit) = (two(structure, LINE), 1 << random.below(16));
+            let picture = picture_line(random, system);
+            put_two(structure, LINE, random.pick(&[picture, picture, picture, line ^ bit]));
+            "picture line"
         }
     }
 }

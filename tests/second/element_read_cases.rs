@@ -3,6 +3,7 @@
 use crate::cases::{how_many, system_and_fi, Call, Case, UNKNOWN};
 use crate::element::{element, read, structure, wrapping, ELEMENT_SHEET_MAX, HEAD, MOST_WORDS};
 use crate::element_faults::{mend_length, pad, put_fault, put_structure_fault};
+use crate::lines::sound_line_but_0;
 use crate::lists::{dcs_of_words, list, packet};
 use crate::packet::Packet;
 use crate::random::Random;
@@ -48,7 +49,7 @@ pub fn make(random: &mut Random) -> Case {
 /// Lines where there are none: an element has one for each packet.
 fn with_lines(random: &mut Random, of_frame: &System, packets: &mut [Packet]) {
     for packet in packets.iter_mut().filter(|packet| packet.line == 0) {
-        packet.line = random.pick(&[1, 9, 255, 256, of_frame.last_line]);
+        packet.line = sound_line_but_0(random, of_frame);
     }
 }
 
@@ -73,17 +74,17 @@ fn written(random: &mut Random, of_frame: &System) -> Draft {
     Draft { kind, element: element(&structures), numbers }
 }
 
-/// As many packets as the limit, one more, and many more, as many as N can say. Often one of the last has a fault, which comes before 5.
+/// As many packets as the limit, one more, and many more, as many as N can say. Often one of the last has a fault, which comes before 5, or two have.
 fn many(random: &mut Random, of_frame: &System) -> Draft {
     let (most, over) = (MOST_PACKETS, MOST_PACKETS + 1);
     let count = random.pick(&[FORMER_LIMIT + 1, most - 1, most, most, most, over, over, over, 1_024, 2_048, 9_362]);
     let count = if random.chance(1) { 65_535 } else { count };
     let dcs = [0; 12].into_iter().chain([1, 1, 2, 3]);
-    let mut packets: Vec<Packet> = dcs.map(|dc| packet(random, of_frame.last_line, dc)).collect();
+    let mut packets: Vec<Packet> = dcs.map(|dc| packet(random, of_frame, dc)).collect();
     with_lines(random, of_frame, &mut packets);
     let packets: Vec<Packet> = (0..count).map(|k| packets[k % packets.len()].clone()).collect();
     let (mut structures, numbers) = structures(of_frame, &packets);
-    if random.chance(30) {
+    for _ in 0..random.pick(&[0, 0, 1, 1, 2]) {
         put_structure_fault(random, &mut structures, of_frame);
     }
     Draft { kind: format!("many, {}", how_many(count)), element: element(&structures), numbers }
@@ -105,13 +106,13 @@ fn words_near_the_limit(random: &mut Random, of_frame: &System) -> Draft {
         (MOST_PACKETS + 1, MOST_WORDS + 1),
     ]);
     let dcs = dcs_of_words(count, words);
-    let mut packets: Vec<Packet> = dcs.into_iter().map(|dc| packet(random, of_frame.last_line, dc)).collect();
+    let mut packets: Vec<Packet> = dcs.into_iter().map(|dc| packet(random, of_frame, dc)).collect();
     with_lines(random, of_frame, &mut packets);
     let (mut structures, numbers) = structures(of_frame, &packets);
     if random.chance(30) {
         pad(random, &mut structures);
     }
-    if random.chance(20) {
+    if random.chance(30) {
         put_structure_fault(random, &mut structures, of_frame);
     }
     Draft { kind: "about 65,535 words".to_string(), element: element(&structures), numbers }
@@ -158,7 +159,7 @@ fn a_few_bytes(random: &mut Random) -> Draft {
 
 /// As long as the length can say, by padding; or one byte longer, or as long as the length says in 24 bits only.
 fn longest(random: &mut Random, of_frame: &System) -> Draft {
-    let mut packets = vec![packet(random, of_frame.last_line, 2)];
+    let mut packets = vec![packet(random, of_frame, 2)];
     with_lines(random, of_frame, &mut packets);
     let (mut structures, numbers) = structures(of_frame, &packets);
     let short = element(&structures).len() - 20;

@@ -2,6 +2,7 @@
 
 use crate::cases::{how_many, system_and_fi, Call, Case};
 use crate::element::{element, serves, structure, write, ELEMENT_MAX, HEAD};
+use crate::lines::sound_line_but_0;
 use crate::lists::list;
 use crate::packet::Packet;
 use crate::random::Random;
@@ -51,9 +52,9 @@ fn put_lines(random: &mut Random, system: &System, fi: bool, packets: &mut [Pack
         1 => packets.iter_mut().for_each(|packet| packet.flags = packet.flags & 2 | u16::from(!fi)),
         _ => {}
     }
-    let (mode, last) = (random.weighted(&[55, 20, 15, 10]), system.last_line);
+    let mode = random.weighted(&[55, 20, 15, 10]);
     for packet in packets.iter_mut().filter(|packet| packet.line == 0 && (mode != 1 || serves(system, fi, packet)) && mode != 3) {
-        packet.line = random.pick(&[1, 9, 255, 256, last]);
+        packet.line = sound_line_but_0(random, system);
     }
     if mode == 2 && !packets.is_empty() {
         for _ in 0..random.between(1, 2) {

@@ -1,10 +1,10 @@
-//! The worked figures of document 01 against these rules, and of its rulings what has figures; the words of request A2, the packet limit of
-//! request A6, and the header's sizes. Then elements in full, and elements of other programs.
+//! The worked figures of document 01 against these rules, and of its rulings what has figures; the words of request A2, the lines of request
+//! A3, the packet limit of request A6, and the header's sizes. Then elements in full, and elements of other programs.
 
 use crate::element::{self, ELEMENT_MAX, ELEMENT_SHEET_MAX, MOST_WORDS};
 use crate::lists::dcs_of_words;
 use crate::packet::{checksum_word, danc, sheet, test_packet, words, Packet};
-use crate::rules::{lay, read, room, system, walk, ReadBack, FORMER_LIMIT, LONGEST_STRING, MOST_PACKETS, SHEET_MAX};
+use crate::rules::{area_with, lay, long_packs, packs_of_five, read, room, system, walk_by, ReadBack, Step, FORMER_LIMIT, LONGEST_STRING, MOST_PACKETS, SHEET_MAX};
 
 fn packet(line: u16, flags: u16, user: &[u8]) -> Packet {
     let mut bytes = vec![0x45, 0x01, user.len() as u8];
@@ -14,6 +14,10 @@ fn packet(line: u16, flags: u16, user: &[u8]) -> Packet {
 
 fn of_lengths(dcs: &[usize]) -> Vec<Packet> {
     dcs.iter().map(|&dc| packet(9, 0, &vec![0x80; dc])).collect()
+}
+
+fn walk(number: u64, string: &[u8], place: u64) -> Step {
+    walk_by(system, number, string, place)
 }
 
 /// The number that laying a list gives in a system and packing.
@@ -49,6 +53,141 @@ fn single_words() {
     assert_eq!(danc(&packet(1125, 0, &[]))[..3], [0xE5, 0x68, 0xFF]);
     assert_eq!(danc(&packet(0, 0, &[]))[..3], [0x00, 0x60, 0xFF]);
     assert_eq!(danc(&packet(127, 0, &[]))[..3], [0xFF, 0x60, 0xFF]);
+}
+
+/// The allowed lines of a frame, without line 0.
+fn lines(number: u64) -> Vec<u16> {
+    let system = system(number).unwrap();
+    (1..=system.last_line).filter(|&line| system.allows(line)).collect()
+}
+
+/// Request A3: "for 1080 interlace lines 1124, 1125, 1 to 20 and 561 to 583, without 7, 8, 569 and 570; for 720 lines 746 to 750 and 1 to 25,
+/// without 7 and 8".
+#[test]
+fn allowed_lines() {
+    let runs = |runs: &[(u16, u16)]| runs.iter().flat_map(|&(first, last)| first..=last).collect::<Vec<u16>>();
+    let of_1080 = runs(&[(1, 6), (9, 20), (561, 568), (571, 583), (1124, 1125)]);
+    assert_eq!((lines(1), lines(2), lines(3)), (of_1080.clone(), of_1080, runs(&[(1, 6), (9, 25), (746, 750)])));
+    for (number, count) in [(1, 41), (2, 41), (3, 28)] {
+        assert_eq!((lines(number).len(), system(number).unwrap().allows(0)), (count, true));
+    }
+    // "Line 127 becomes refused; 561 and no line stay."
+    assert_eq!([127, 561, 0].map(|line| number(1, 1, &[packet(line, 0, &[])])), [20, 0, 0]);
+    assert_eq!([127, 561, 0].map(|line| number(3, 2, &[packet(line, 0, &[])])), [20, 20, 0]);
+}
+
+/// RP 291-2, table 3a, "VANC interval word rate (Y+CBCR) (MWord/sec)": the allowed lines, each with the words of Y and of C, at the frames'
+/// rate, where a "*" divides the rate by 1.001. In thousands of words, rounded as there.
+#[test]
+fn word_rates() {
+    for (number, words_of_a_line, frames, divisor, rate) in
+        [(2, 2 * 1_920, 25, 1.0, 3_936.0), (1, 2 * 1_920, 30, 1.001, 4_718.0), (3, 2 * 1_280, 60, 1.001, 4_297.0)]
+    {
+        let words = (lines(number).len() * words_of_a_line * frames) as f64 / divisor;
+        assert_eq!((words / 1_000.0).round(), rate, "system {number}");
+    }
+}
+
+/// "20 [..] laying and the lister test it after 6 on all locations": and before 7 to 12, 18 and 17.
+#[test]
+fn order_of_20_on_a_sheet() {
+    let lines = |lines: &[u16]| sheet(1, &lines.iter().map(|&line| packet(line, 0, &[1, 2])).collect::<Vec<_>>());
+    let both = |sheet: &[u16]| {
+        let (laid, written) = (lay(sheet, 1, &[0; 9_600]), element::write(sheet, false, &[0; 200]));
+        assert_eq!((laid.number, laid.place, laid.word), (written.number, written.place, written.word));
+        (laid.number, laid.place, laid.word)
+    };
+    assert_eq!((both(&lines(&[9, 9, 127])), both(&lines(&[9, 300, 127]))), ((20, 2, 0), (20, 1, 0)));
+    assert_eq!((both(&lines(&[300, 9, 1126])), both(&lines(&[1126, 9, 300]))), ((6, 2, 0), (6, 0, 0)));
+    // Flags of location 2, a line past the last and a picture line; then its flags with its own picture line.
+    assert_eq!((both(&with(&lines(&[300, 9, 9]), &[(8, 4)])), both(&with(&lines(&[9, 9, 300]), &[(8, 4)]))), ((6, 2, 0), (6, 2, 0)));
+    // A flag word, DID, a user word and CS of the first packet, whose words begin at 10.
+    for at in [10, 13, 16, 18] {
+        assert_eq!(both(&with(&lines(&[9, 9, 300]), &[(at, 0x155)])), (20, 2, 0));
+    }
+    // 9: the last packet cut; 11: a location too many.
+    let cut = lines(&[9, 9, 300]);
+    assert_eq!(both(&with(&cut[..cut.len() - 1], &[(9, 26)])), (20, 2, 0));
+    assert_eq!(both(&[&[1, 1, 2, 9, 0, 300, 0], &lines(&[9])[5..]].concat()), (20, 1, 0));
+    // 12: 780 packets of two packs each are the most in packing 1.
+    let full = [of_lengths(&[0; 780]), vec![packet(300, 0, &[])]].concat();
+    assert_eq!((number(1, 1, &full), number(1, 1, &of_lengths(&[0; 781]))), (20, 12));
+    // 1, 4 and 5 come before: an area of another system, no such packing, and a packet over the limit.
+    assert_eq!((lay(&lines(&[300]), 1, &[0; 11_520]).number, lay(&lines(&[300]), 3, &[]).number), (4, 1));
+    let over = sheet(2, &[of_lengths(&[0; MOST_PACKETS]), vec![packet(300, 0, &[])]].concat());
+    assert_eq!((lay(&over, 2, &[0; 11_520]).number, element::write(&over, false, &[]).number), (5, 5));
+    // 18: the first packet has no line; 17: there is no room.
+    assert_eq!((element::write(&lines(&[0, 300]), false, &[0; 99]).number, element::write(&lines(&[9, 300]), false, &[]).number), (20, 20));
+}
+
+/// "reading and the walker after each packet's 16": packet by packet, so that what comes first in the string is named.
+#[test]
+fn order_of_20_on_reading() {
+    // Of three packets each is sound (0), or has the fault of a number. Their areas are laid by force.
+    let of_faults = |faults: [u64; 3], packing: u64| {
+        let dancs: Vec<Vec<u8>> = faults.iter().map(|&fault| danc_with_fault(fault)).collect();
+        let blocks = system(1).unwrap().blocks();
+        let packs = if packing == 1 { packs_of_five(&dancs) } else { long_packs(&dancs.concat(), &blocks) };
+        let back = read(1, &area_with(&[0; 9_600], &blocks, &packs.concat()), &[7; 60]);
+        (back.number, back.place)
+    };
+    for packing in [1, 2] {
+        assert_eq!((of_faults([0, 0, 0], packing), of_faults([0, 20, 20], packing)), ((0, 0), (20, 1)));
+        for other in [15, 16] {
+            assert_eq!((of_faults([20, other, 0], packing), of_faults([other, 20, 0], packing)), ((20, 0), (other, 0)));
+            assert_eq!((of_faults([0, 20, other], packing), of_faults([0, other, 20], packing)), ((20, 1), (other, 1)));
+        }
+        // 15 and 20 on one packet.
+        assert_eq!(of_faults([0, 35, 20], packing), (15, 1));
+    }
+    // 14: the last packet is cut, and where it is not the last 15 follows from the bytes behind.
+    assert_eq!((of_faults([20, 0, 14], 2), of_faults([0, 14, 20], 2)), ((20, 0), (15, 1)));
+    // 14 and 20 on one packet, in packs of 5: DC asks for more carriers.
+    assert_eq!((of_faults([0, 34, 20], 1), of_faults([20, 34, 0], 1)), ((14, 1), (20, 0)));
+    // 17 comes behind: room for a sheet of 40 numbers less one.
+    let string = [danc_with_fault(0), danc_with_fault(20)].concat();
+    let blocks = system(3).unwrap().blocks();
+    let area = area_with(&[0; 9_600], &blocks, &long_packs(&string, &blocks).concat());
+    assert_eq!((read(3, &area, &[]).number, read(3, &area, &[]).place), (20, 1));
+    assert_eq!((walk(1, &string, 0).length, walk(1, &string, 9).number, walk(1, &string, 9).place), (9, 20, 9));
+    let both = danc_with_fault(35);
+    assert_eq!((walk(1, &both, 0).number, walk(1, &both[..8], 0).number), (15, 14));
+}
+
+/// The DANC bytes of packet p on line 9, with a fault: 14 is cut by a byte, 34 has a DC of one carrier more and 35 a wrong CS, both of them on
+/// picture line 127.
+fn danc_with_fault(fault: u64) -> Vec<u8> {
+    let mut bytes = danc(&packet(if [20, 34, 35].contains(&fault) { 127 } else { 9 }, 0, &[0x10, 0x80]));
+    match fault {
+        14 => drop(bytes.pop()),
+        15 | 35 => bytes[8] ^= 1,
+        16 => bytes[..2].copy_from_slice(&[0x80, 0x60]),
+        34 => bytes[5] += 4,
+        _ => {}
+    }
+    bytes
+}
+
+/// "MXF reading after 19": 19 of the whole element comes first, then 20 of its packets, then 5 and 17.
+#[test]
+fn order_of_20_on_elements() {
+    let of_lines = |lines: &[u16]| {
+        let packets = lines.iter().map(|&line| packet(line, 0, &[]));
+        element::element(&packets.map(|packet| element::structure(&system(1).unwrap(), &packet)).collect::<Vec<_>>())
+    };
+    assert_eq!((refusal(1, &of_lines(&[9, 561, 1125])), refusal(1, &of_lines(&[9, 300, 127]))), ((0, 0), (20, 1)));
+    // A structure of DC 0 has 17 bytes: line 0 and a line past the last are 19 at its first byte, also behind a picture line.
+    assert_eq!((refusal(1, &of_lines(&[300, 9, 0])), refusal(1, &of_lines(&[300, 1126]))), ((19, 56), (19, 39)));
+    let mut surplus = of_lines(&[300]);
+    surplus.push(0x00);
+    surplus[19] += 1;
+    assert_eq!((refusal(1, &surplus), refusal(1, &surplus[..30]), refusal(4, &of_lines(&[300]))), ((19, 39), (19, 17), (3, 0)));
+    let most = vec![9; MOST_PACKETS];
+    assert_eq!(refusal(1, &of_lines(&[&most[..], &[300]].concat())), (20, MOST_PACKETS as u64));
+    assert_eq!(refusal(1, &of_lines(&[&most[..], &[9, 300]].concat())), (20, MOST_PACKETS as u64 + 1));
+    assert_eq!(refusal(1, &of_lines(&[&most[..], &[9]].concat())), (5, MOST_PACKETS as u64));
+    let back = element::read(1, false, &of_lines(&[9, 300]), &[7; 3]);
+    assert_eq!((back.number, back.place, back.packets, back.numbers, back.buffer), (20, 1, 0, 0, vec![7; 3]));
 }
 
 /// Number, word and kind of the packet that these words begin with.
@@ -263,6 +402,8 @@ fn line_0_and_the_walker() {
     assert_eq!((walk(1, &string, 0).length, walk(1, &string, 9).length, walk(1, &string, 16).length), (9, 7, 0));
     string[9] = 0x80;
     assert_eq!((walk(1, &string, 9).number, walk(1, &string, 9).place), (16, 9));
+    string[9..11].copy_from_slice(&[0xFF, 0x60]);
+    assert_eq!((walk(1, &string, 9).number, walk(1, &string, 9).place), (20, 9));
     assert_eq!((walk(4, &[], 5).number, walk(4, &[], 5).place), (3, 0));
     assert_eq!(checksum_word(&[0x45, 0x01, 0x02, 0x10, 0x80]), 0x1D8);
 }
@@ -341,7 +482,9 @@ fn padded_element() {
     assert_eq!((with(0, 0x07), with(15, 0x02), with(16, 0x84), with(18, 0x01)), ((19, 0), (19, 15), (19, 16), (19, 17)));
     // N too small leaves surplus bytes, N too large makes the end come early.
     assert_eq!((with(21, 0x00), with(21, 0x02), with(20, 0xFF)), ((19, 22), (19, 44), (19, 44)));
-    assert_eq!((with(23, 0x00), with(22, 0x04), with(24, 0x02), with(25, 0x06)), ((19, 22), (0, 0), (19, 24), (19, 25)));
+    assert_eq!((with(23, 0x00), with(24, 0x02), with(25, 0x06)), ((19, 22), (19, 24), (19, 25)));
+    // Lines 1033 and 10, 2057 and 0.
+    assert_eq!((with(22, 0x04), with(23, 0x0A), with(22, 0x08), with(23, 0x00)), ((20, 0), (0, 0), (19, 22), (19, 22)));
     assert_eq!((with(27, 0x02), with(27, 0x03), with(26, 0x01), with(27, 0x06)), ((19, 26), (19, 38), (19, 26), (19, 38)));
     assert_eq!((with(31, 0x04), with(31, 0x09), with(28, 0xFF), with(31, 0x05)), ((19, 28), (19, 28), (19, 28), (19, 41)));
     assert_eq!((with(35, 0x00), with(32, 0x01), with(38, 0x01), with(40, 0x81)), ((19, 32), (19, 32), (19, 38), (0, 0)));

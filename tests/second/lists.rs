@@ -1,5 +1,6 @@
 //! Lists of sound packets, from none to more than a frame holds.
 
+use crate::lines::sound_line;
 use crate::packet::Packet;
 use crate::random::Random;
 use crate::rules::{room, System, FORMER_LIMIT, MOST_PACKETS};
@@ -31,7 +32,7 @@ pub fn list(random: &mut Random, system: &System, packing: u64) -> List {
             (format!("over {MOST_PACKETS} packets"), (0..count).map(|_| random.pick(&[0, 0, 0, 0, 0, 1, 2, 3])).collect())
         }
     };
-    List { kind, packets: dcs.into_iter().map(|dc| packet(random, system.last_line, dc)).collect() }
+    List { kind, packets: dcs.into_iter().map(|dc| packet(random, system, dc)).collect() }
 }
 
 fn short(random: &mut Random) -> Vec<usize> {
@@ -123,7 +124,7 @@ fn shares(random: &mut Random, total: usize, count: usize, most: usize) -> Vec<u
 }
 
 /// A sound packet with DC user words.
-pub fn packet(random: &mut Random, last_line: u16, dc: usize) -> Packet {
+pub fn packet(random: &mut Random, system: &System, dc: usize) -> Packet {
     let mut bytes = some_bytes(random, 2);
     bytes.push(dc as u8);
     let user = some_bytes(random, dc);
@@ -131,7 +132,7 @@ pub fn packet(random: &mut Random, last_line: u16, dc: usize) -> Packet {
     if random.chance(20) {
         end_in_ff(&mut bytes);
     }
-    Packet { line: line(random, last_line), flags: random.below(4) as u16, bytes }
+    Packet { line: sound_line(random, system), flags: random.below(4) as u16, bytes }
 }
 
 /// Noise, one value throughout, or noise that is dense in FFh, E1h, E2h, E3h and 00h.
@@ -148,18 +149,4 @@ fn end_in_ff(bytes: &mut [u8]) {
     let changed = if bytes.len() > 3 { bytes.len() - 1 } else { 1 };
     let sum = bytes.iter().fold(0u8, |sum, &byte| sum.wrapping_add(byte));
     bytes[changed] = bytes[changed].wrapping_add(0xFF_u8.wrapping_sub(sum));
-}
-
-/// None, the first, the last, lines that make a header byte FFh or 80h, or any.
-fn line(random: &mut Random, last_line: u16) -> u16 {
-    match random.below(12) {
-        0..=2 => 0,
-        3 => 1,
-        4 => 127,
-        5 => last_line,
-        6 => 255,
-        7 => 256,
-        8 => 383,
-        _ => 1 + random.below(last_line as usize) as u16,
-    }
 }

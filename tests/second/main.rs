@@ -1,4 +1,4 @@
-//! Compares libvanc with a second implementation of document 01 and the requests A1, A2 and A6, on cases made by chance.
+//! Compares libvanc with a second implementation of document 01 and the requests A1, A2, A3 and A6, on cases made by chance.
 //!
 //! second SEED CASES COMMAND [ARG..]         asks COMMAND (answer.c) CASES cases; exits with 1 on a mismatch or a number never met
 //! second --case SEED CASE COMMAND [ARG..]   makes one case again and shows it
@@ -12,10 +12,12 @@ mod element_write_cases;
 #[cfg(test)]
 mod figures;
 mod lay_cases;
+mod lines;
 mod lists;
 mod pack_faults;
 mod packet;
 mod packet_cases;
+mod pairs;
 mod random;
 mod read_cases;
 mod rules;

@@ -1,4 +1,6 @@
-//! The ten-bit packet and its test, its DANC bytes and the sheet. Quotations are from document 01 and request A2.
+//! The ten-bit packet and its test, its DANC bytes and the sheet. Quotations are from document 01 and the requests A2 and A3.
+
+use crate::rules::System;
 
 /// A packet and its location. `bytes` are the low eight bits of DID, SDID or DBN, DC and the user words.
 #[derive(Clone)]
@@ -112,8 +114,8 @@ pub fn danc(packet: &Packet) -> Vec<u8> {
     bytes
 }
 
-/// The packet of DANC bytes, or 15 or 16. `danc` holds exactly DC + 7 bytes.
-pub fn from_danc(danc: &[u8], last_line: u16) -> Result<Packet, u64> {
+/// The packet of DANC bytes, or 15, 16 or 20. `danc` holds exactly DC + 7 bytes.
+pub fn from_danc(danc: &[u8], system: &System) -> Result<Packet, u64> {
     let (bytes, checksum) = (&danc[3..danc.len() - 1], danc[danc.len() - 1]);
     // "15: stored CS byte is not the sum's low byte"
     if checksum != checksum_word(bytes) as u8 {
@@ -124,8 +126,12 @@ pub fn from_danc(danc: &[u8], last_line: u16) -> Result<Packet, u64> {
     if danc[0] & 0x80 != 0 {
         line = (danc[1] % 16) as u16 * 128 + (danc[0] % 128) as u16;
         // "16: LE is 1 and the line is 0 or past the last"
-        if line == 0 || line > last_line {
+        if line == 0 || line > system.last_line {
             return Err(16);
+        }
+        // "20 [..] a line in the frame that isn't allowed", "after each packet's 16"
+        if !system.allows(line) {
+            return Err(20);
         }
     }
     let (fi, ycf) = (danc[1] >> 7, danc[1] >> 4 & 1);

@@ -1,6 +1,6 @@
 //! Cases for the test of a packet: sound, with words behind it, cut, with one or more faults, and lists of a few words.
 
-use crate::cases::{Call, Case};
+use crate::cases::{any_system, Call, Case};
 use crate::lists::packet;
 use crate::packet::{parity_word, words};
 use crate::random::Random;
@@ -28,7 +28,8 @@ fn few_words(random: &mut Random) -> Vec<u16> {
 fn of_packet(random: &mut Random) -> (&'static str, Vec<u16>) {
     let (few, any) = (random.below(6), random.below(256));
     let dc = random.pick(&[few, few, few, any, 254, 255]);
-    let mut packet = packet(random, 1125, dc);
+    let system = any_system(random);
+    let mut packet = packet(random, &system, dc);
     if random.chance(30) {
         // On both sides of what makes the type.
         packet.bytes[0] = random.pick(&[0x00, 0x7F, 0x80, 0xFF]);
@@ -89,7 +90,8 @@ fn put_fault(random: &mut Random, words: &mut [u16]) -> &'static str {
 /// One word or a whole packet behind this one: it is not looked at, unless DC was made longer.
 fn put_behind(random: &mut Random, behind: &mut Vec<u16>) {
     let dc = random.below(5);
-    let next = words(&packet(random, 1125, dc));
+    let system = any_system(random);
+    let next = words(&packet(random, &system, dc));
     let (noise, length) = (random.number(), random.between(1, next.len()));
     match random.below(3) {
         0 => behind.push(random.pick(&[0, 0x3FF, noise])),

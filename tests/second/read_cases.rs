@@ -77,7 +77,7 @@ fn laid(random: &mut Random, of_frame: &System) -> Frame {
         odd_but_sound(random, &mut dancs);
     }
     for _ in 0..random.pick(&[0, 0, 0, 0, 0, 1, 1, 2]) {
-        kind = format!("read, fault: {}", put_fault(random, &mut dancs, of_frame.last_line));
+        kind = format!("read, fault: {}", put_fault(random, &mut dancs, of_frame));
     }
     if drop_what_has_no_room(&mut dancs, room(&blocks, packing), packing) {
         kind = "read, a list less the packets without room".to_string();
@@ -139,7 +139,7 @@ fn surplus_fill(random: &mut Random, of_frame: &System, blocks: &[Vec<usize>]) -
         _ => random.below(72),
     };
     let total = room(&blocks[..first], 2).saturating_sub(unused).max(7);
-    let packets: Vec<Packet> = dcs_of_total(random, total, 2).into_iter().map(|dc| packet(random, of_frame.last_line, dc)).collect();
+    let packets: Vec<Packet> = dcs_of_total(random, total, 2).into_iter().map(|dc| packet(random, of_frame, dc)).collect();
     let mut string = packets.iter().map(danc).collect::<Vec<_>>().concat();
     string.resize(room(&blocks[..first + more], 2), 0xFF);
     if random.chance(20) && string.len() >= total + 262 {
@@ -199,12 +199,12 @@ fn smallest(random: &mut Random, of_frame: &System, blocks: &[Vec<usize>]) -> Fr
             dcs[random.index(count)] += 1;
         }
     }
-    let packets: Vec<Packet> = dcs.into_iter().map(|dc| packet(random, of_frame.last_line, dc)).collect();
+    let packets: Vec<Packet> = dcs.into_iter().map(|dc| packet(random, of_frame, dc)).collect();
     let mut dancs: Vec<Vec<u8>> = packets.iter().map(danc).collect();
     let mut kind = format!("read, the smallest packets, system {} packing {packing}", of_frame.number);
     if random.chance(35) {
         let mut late = dancs.split_off(random.pick(&[0, count * 9 / 10, count * 9 / 10]));
-        kind = format!("read, the smallest packets, fault: {}", put_fault(random, &mut late, of_frame.last_line));
+        kind = format!("read, the smallest packets, fault: {}", put_fault(random, &mut late, of_frame));
         dancs.extend(late);
     }
     let numbers = sheet(of_frame.number, &packets).len();

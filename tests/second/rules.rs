@@ -1,5 +1,7 @@
-//! Laying, reading and walking by document 01, written a second time and as plainly as it goes. Quotations are from document 01.
+//! Laying, reading and walking by document 01, written a second time and as plainly as it goes. Quotations are from document 01, and from
+//! request A3 where that is named.
 
+use crate::lines::{Row, ROW_1080, ROW_720, ROW_OF_ANY_LINE};
 use crate::packet::{danc, from_danc, packet_in_front, sheet, Packet};
 
 /// What laying gives back, and the area after it.
@@ -59,16 +61,25 @@ pub struct System {
     pub number: u64,
     pub sequences: usize,
     pub last_line: u16,
+    pub row: Row,
 }
 
-/// The table of "Three systems".
+/// The system of a number, by one rule or another.
+pub type Systems = fn(u64) -> Option<System>;
+
+/// The table of "Three systems", with request A3's lines.
 pub fn system(number: u64) -> Option<System> {
     match number {
-        1 => Some(System { number, sequences: 10, last_line: 1125 }),
-        2 => Some(System { number, sequences: 12, last_line: 1125 }),
-        3 => Some(System { number, sequences: 10, last_line: 750 }),
+        1 => Some(System { number, sequences: 10, last_line: 1125, row: ROW_1080 }),
+        2 => Some(System { number, sequences: 12, last_line: 1125, row: ROW_1080 }),
+        3 => Some(System { number, sequences: 10, last_line: 750, row: ROW_720 }),
         _ => None,
     }
+}
+
+/// The same as it was before request A3. What is refused with 20 is answered by it as if 20 were not tested.
+pub fn system_before_a3(number: u64) -> Option<System> {
+    system(number).map(|system| System { row: ROW_OF_ANY_LINE, ..system })
 }
 
 impl System {
@@ -113,19 +124,24 @@ pub const SHEET_MAX: usize = 4 + 2 * MOST_PACKETS + LONGEST_STRING;
 
 // Laying.
 
-/// "On refusal the later figures are 0 and the area [..] is unchanged."
 pub fn lay(sheet: &[u16], packing: u64, area: &[u8]) -> Laid {
-    laying(sheet, packing, area).unwrap_or_else(|refusal| {
+    lay_by(system, sheet, packing, area)
+}
+
+/// "On refusal the later figures are 0 and the area [..] is unchanged."
+pub fn lay_by(systems: Systems, sheet: &[u16], packing: u64, area: &[u8]) -> Laid {
+    laying(systems, sheet, packing, area).unwrap_or_else(|refusal| {
         let SheetRefusal { number, place, word } = refusal;
         Laid { number, place, word, packs: 0, bytes: 0, area: area.to_vec() }
     })
 }
 
-/// "Laying tests 1 to 6 in table order. Then packet by packet: 7; 8 on DID, SDID and DC; 9; 8 on the user words; 10. Then 11, 12."
-fn laying(sheet: &[u16], packing: u64, area: &[u8]) -> Result<Laid, SheetRefusal> {
+/// "Laying tests 1 to 6 in table order. Then packet by packet: 7; 8 on DID, SDID and DC; 9; 8 on the user words; 10. Then 11, 12." Request A3
+/// has 20 behind 6.
+fn laying(systems: Systems, sheet: &[u16], packing: u64, area: &[u8]) -> Result<Laid, SheetRefusal> {
     refuse_if(packing != 1 && packing != 2, 1, 0)?;
     let sections = sections(sheet).ok_or((2, 0))?;
-    let system = system(sections.system as u64).ok_or((3, 0))?;
+    let system = systems(sections.system as u64).ok_or((3, 0))?;
     refuse_if(area.len() != system.area_bytes(), 4, 0)?;
     let dancs: Vec<Vec<u8>> = packets_of_sections(&sections, &system)?.iter().map(danc).collect();
     let (blocks, string) = (system.blocks(), dancs.concat());
@@ -143,20 +159,23 @@ fn laying(sheet: &[u16], packing: u64, area: &[u8]) -> Result<Laid, SheetRefusal
     })
 }
 
-/// The system and the packets of a sheet. "The lister [..] makes the tests 2, 3, 5 to 11".
-pub fn listed(sheet: &[u16]) -> Result<(System, Vec<Packet>), SheetRefusal> {
+/// The system and the packets of a sheet. "The lister [..] makes the tests 2, 3, 5 to 11". Request A3 has 20 among them.
+pub fn listed(systems: Systems, sheet: &[u16]) -> Result<(System, Vec<Packet>), SheetRefusal> {
     let sections = sections(sheet).ok_or((2, 0))?;
-    let system = system(sections.system as u64).ok_or((3, 0))?;
+    let system = systems(sections.system as u64).ok_or((3, 0))?;
     let packets = packets_of_sections(&sections, &system)?;
     Ok((system, packets))
 }
 
-/// The tests 5 to 11.
+/// The tests 5 to 11, and 20. Request A3: "laying and the lister test it after 6 on all locations".
 fn packets_of_sections(sections: &Sections, system: &System) -> Result<Vec<Packet>, SheetRefusal> {
     let locations: Vec<(u16, u16)> = sections.locations.chunks(2).map(|pair| (pair[0], pair[1])).collect();
     refuse_if(locations.len() > MOST_PACKETS, 5, 0)?;
     for (k, &(line, flags)) in locations.iter().enumerate() {
         refuse_if(line > system.last_line || flags > 3, 6, k)?;
+    }
+    for (k, &(line, _)) in locations.iter().enumerate() {
+        refuse_if(!system.allows(line), 20, k)?;
     }
     let packets = packets_of_words(sections.words)?;
     refuse_if(packets.len() != locations.len(), 11, 0)?;
@@ -255,10 +274,14 @@ pub fn area_with(area: &[u8], blocks: &[Vec<usize>], user: &[u8]) -> Vec<u8> {
 
 // Reading.
 
-/// "On refusal the later figures are 0 and [..] the sheet buffer, is unchanged. On success the sheet buffer past the sheet is unchanged."
 pub fn read(system_number: u64, area: &[u8], buffer: &[u16]) -> ReadBack {
+    read_by(system, system_number, area, buffer)
+}
+
+/// "On refusal the later figures are 0 and [..] the sheet buffer, is unchanged. On success the sheet buffer past the sheet is unchanged."
+pub fn read_by(systems: Systems, system_number: u64, area: &[u8], buffer: &[u16]) -> ReadBack {
     let mut back = ReadBack { number: 0, place: 0, packing: 0, packets: 0, numbers: 0, buffer: buffer.to_vec() };
-    match reading(system_number, area, buffer.len()) {
+    match reading(systems, system_number, area, buffer.len()) {
         Err((number, place)) => (back.number, back.place) = (number, place),
         Ok((packing, packets)) => {
             let sheet = sheet(system_number, &packets);
@@ -272,9 +295,9 @@ pub fn read(system_number: u64, area: &[u8], buffer: &[u16]) -> ReadBack {
 }
 
 /// The packing found and the packets. "Reading tests 3, 4, 13, then packet by packet 5 (only a 513th), 14, 15, 16, then 17." Request A6
-/// has 1,275 for 512, "and so does 5's place on reading".
-fn reading(system_number: u64, area: &[u8], room: usize) -> Result<(u64, Vec<Packet>), Refusal> {
-    let system = system(system_number).ok_or((3, 0))?;
+/// has 1,275 for 512, "and so does 5's place on reading"; request A3 has 20 "after each packet's 16".
+fn reading(systems: Systems, system_number: u64, area: &[u8], room: usize) -> Result<(u64, Vec<Packet>), Refusal> {
+    let system = systems(system_number).ok_or((3, 0))?;
     refuse_if(area.len() != system.area_bytes(), 4, 0)?;
     let blocks: Vec<Vec<u8>> = system.blocks().iter().map(|block| block.iter().map(|&place| area[place]).collect()).collect();
     let (packing, packets) = match blocks[0][0] {
@@ -325,7 +348,7 @@ fn packets_of_starters(starters: &[Vec<u8>], system: &System) -> Result<Vec<Pack
         let length = bytes[5] as usize + 7;
         let carriers = length / 4; // the other length - 3 bytes by fours, rounded up
         refuse_if(bytes.len() != 3 + 4 * carriers || !is_fill(&bytes[length..]), 14, k)?;
-        packets.push(from_danc(&bytes[..length], system.last_line).map_err(|number| (number, k as u64))?);
+        packets.push(from_danc(&bytes[..length], system).map_err(|number| (number, k as u64))?);
     }
     Ok(packets)
 }
@@ -362,7 +385,7 @@ fn packets_of_string(string: &LongString, system: &System) -> Result<Vec<Packet>
         // "5: reading: after 512 packets, not the end", with the limit of request A6
         refuse_if(k == MOST_PACKETS, 5, MOST_PACKETS)?;
         let danc = first_danc(&string.bytes[place..]).ok_or((14, k as u64))?;
-        packets.push(from_danc(danc, system.last_line).map_err(|number| (number, k as u64))?);
+        packets.push(from_danc(danc, system).map_err(|number| (number, k as u64))?);
         place += danc.len();
     }
     Ok(packets)
@@ -379,9 +402,10 @@ fn first_danc(string: &[u8]) -> Option<&[u8]> {
 // Walking.
 
 /// "Each step gives the next packet's place and length, the string's end, or 14, 15 or 16, tested in that order, for that packet." - "an
-/// unknown system is 3 at place 0, even with nothing to walk." - "a place past the string's end answers the end."
-pub fn walk(system_number: u64, string: &[u8], place: u64) -> Step {
-    let system = match system(system_number) {
+/// unknown system is 3 at place 0, even with nothing to walk." - "a place past the string's end answers the end." Request A3: the walker
+/// tests 20 "after each packet's 16".
+pub fn walk_by(systems: Systems, system_number: u64, string: &[u8], place: u64) -> Step {
+    let system = match systems(system_number) {
         Some(system) => system,
         None => return Step { number: 3, place: 0, length: 0 },
     };
@@ -393,7 +417,7 @@ pub fn walk(system_number: u64, string: &[u8], place: u64) -> Step {
         Some(danc) => danc,
         None => return Step { number: 14, place, length: 0 },
     };
-    match from_danc(danc, system.last_line) {
+    match from_danc(danc, &system) {
         Ok(_) => Step { number: 0, place, length: danc.len() as u64 },
         Err(number) => Step { number, place, length: 0 },
     }

@@ -1,6 +1,7 @@
 //! Sheets for laying and for elements: sound, near the limit of 16 bits, of a few numbers, and with one or more faults.
 
 use crate::element::MOST_WORDS;
+use crate::lines::picture_line;
 use crate::lists::{dcs_of_words, packet};
 use crate::packet::{parity_word, with_bit_9, words, Packet};
 use crate::random::Random;
@@ -47,7 +48,7 @@ impl Draft {
 
 /// Puts one fault into the sheet, and names it. Some leave it sound, as a count that is off by 0.
 pub fn put_fault(random: &mut Random, draft: &mut Draft, system: &System) -> &'static str {
-    match random.weighted(&[3, 5, 5, 5, 5, 3, 5, 10, 20, 12, 8, 6, 6, 6, 5]) {
+    match random.weighted(&[3, 5, 5, 5, 5, 3, 5, 10, 20, 12, 8, 6, 6, 6, 5, 18]) {
         0 => put(&mut draft.count_a, random.pick(&[0, 2, 3, 256, 257, 65_535]), "count A"),
         1 => put(&mut draft.system, random.pick(&[0, 1, 2, 3, 4, 255, 257, 65_535]), "system"),
         2 => put(&mut draft.count_p_off, count_off(random), "count P"),
@@ -62,7 +63,8 @@ pub fn put_fault(random: &mut Random, draft: &mut Draft, system: &System) -> &'s
         11 => cut_packet(random, draft),
         12 => words_added(random, draft, system),
         13 => locations_differ(random, draft),
-        _ => longest_packet(random, draft, system),
+        14 => longest_packet(random, draft, system),
+        _ => picture_lines(random, draft, system),
     }
 }
 
@@ -98,6 +100,24 @@ fn wrong_location(random: &mut Random, draft: &mut Draft, system: &System) -> &'
         }
     }
     "location"
+}
+
+/// Picture lines at one location, at a few, or at all; now and then flags out of range there or elsewhere.
+fn picture_lines(random: &mut Random, draft: &mut Draft, system: &System) -> &'static str {
+    let count = draft.locations.len();
+    if count > 0 {
+        for _ in 0..random.pick(&[1, 1, 1, 2, 3]) {
+            let k = random.index(count);
+            draft.locations[k][0] = picture_line(random, system);
+        }
+        if random.chance(10) {
+            draft.locations.iter_mut().for_each(|location| location[0] = picture_line(random, system));
+        }
+        if random.chance(15) {
+            draft.locations[random.index(count)][1] = 4;
+        }
+    }
+    "picture line"
 }
 
 /// The packet that a fault goes to: often the first or the last.
@@ -202,7 +222,7 @@ fn cut_packet(random: &mut Random, draft: &mut Draft) -> &'static str {
 
 /// The longest packet in place of the last, at fault in one of its last words: a word that is named may take more than eight bits.
 fn longest_packet(random: &mut Random, draft: &mut Draft, system: &System) -> &'static str {
-    let mut longest = words(&packet(random, system.last_line, 255));
+    let mut longest = words(&packet(random, system, 255));
     match random.below(3) {
         0 => longest.truncate(random.pick(&[261, 261, 260, 256])),
         1 => longest[random.pick(&[260, 260, 259, 256])] ^= random.pick(&[0x100, 0x300, 0x400]),
@@ -217,7 +237,7 @@ fn longest_packet(random: &mut Random, draft: &mut Draft, system: &System) -> &'
 /// Words behind the last packet, with the count right: the start of a packet, or a whole one without a location.
 fn words_added(random: &mut Random, draft: &mut Draft, system: &System) -> &'static str {
     let dc = random.below(5);
-    let mut added = words(&packet(random, system.last_line, dc));
+    let mut added = words(&packet(random, system, dc));
     if random.chance(60) {
         added.truncate(random.between(1, 8));
     }
@@ -247,7 +267,7 @@ pub fn packets_near_the_limit(random: &mut Random, system: &System) -> Vec<Packe
         (2_048, 7 * 2_048),
         (3, 3 * 9),
     ]);
-    dcs_of_words(count, words).into_iter().map(|dc| packet(random, system.last_line, dc)).collect()
+    dcs_of_words(count, words).into_iter().map(|dc| packet(random, system, dc)).collect()
 }
 
 /// Sheets of up to 65,535 locations and 65,535 words, and lengths that are right in 16 bits only.

@@ -264,7 +264,7 @@ pub fn without_packs(call: &Call, start: usize, count: usize) -> Option<Call> {
 }
 
 /// The packs of 5, each starter and what stands behind it together.
-fn by_starter(call: &Call) -> Vec<Vec<u8>> {
+pub fn by_starter(call: &Call) -> Vec<Vec<u8>> {
     let mut groups: Vec<Vec<u8>> = Vec::new();
     for pack in packs(call) {
         match groups.last_mut() {
@@ -305,7 +305,7 @@ pub fn without_string_bytes(call: &Call, start: usize, count: usize) -> Option<C
 }
 
 /// The string of an area, cut where its DCs say that packets end.
-fn by_packet(call: &Call) -> Option<Vec<Vec<u8>>> {
+pub fn by_packet(call: &Call) -> Option<Vec<Vec<u8>>> {
     let string = string(call)?;
     let mut left = &string[..];
     let mut packets = Vec::new();

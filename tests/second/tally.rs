@@ -3,10 +3,11 @@
 use std::collections::BTreeMap;
 
 use crate::cases::{Call, CALLS, LAY, MXF_READ, MXF_WRITE, NAMES, READ, TEST_PACKET, WALK};
+use crate::pairs::{pair, pairs};
 use crate::show::show_numbers;
 
-/// 0, and the refusals 1 to 19.
-pub const NUMBERS: usize = 20;
+/// 0, and the refusals 1 to 20.
+pub const NUMBERS: usize = 21;
 
 /// Numbers that a call cannot give, and why.
 const CANNOT: [(usize, &[usize], &str); 17] = [
@@ -30,14 +31,15 @@ const CANNOT: [(usize, &[usize], &str); 17] = [
     (MXF_READ, &[2, 6, 7, 8, 9, 10, 11], "these are tests of a sheet, and reading is given none"),
     (MXF_READ, &[18], "an element's packets have lines; line 0 is 19"),
     (TEST_PACKET, &[1, 2, 3, 4, 5, 6], "a packet alone has neither packing nor sheet nor area"),
-    (TEST_PACKET, &[11, 12, 13, 14, 15, 16, 17, 18, 19], "nor a location, nor is it laid, read or written"),
+    (TEST_PACKET, &[11, 12, 13, 14, 15, 16, 17, 18, 19, 20], "nor a location, nor is it laid, read or written"),
 ];
 
 /// From this packet or location on a refusal is late: its place has more than ten bits.
 const LATE: u64 = 1_024;
 
 /// Numbers whose place is a packet or a location, and that have to be met as late as that.
-const BY_PACKET: [(usize, &[usize]); 4] = [(LAY, &[6, 7, 8, 9, 10]), (READ, &[5, 14, 15, 16]), (MXF_WRITE, &[18]), (MXF_READ, &[5])];
+const BY_PACKET: [(usize, &[usize]); 4] =
+    [(LAY, &[6, 7, 8, 9, 10, 20]), (READ, &[5, 14, 15, 16, 20]), (MXF_WRITE, &[18, 20]), (MXF_READ, &[5, 20])];
 
 /// Of the words that request A2 names, those that have to be met with each number: from the first to the last of a run, one of them. 260 is the
 /// last of 255 user words.
@@ -105,18 +107,27 @@ fn cannot(call: usize, number: usize) -> bool {
     CANNOT.iter().any(|(of, numbers, _)| *of == call && numbers.contains(&number))
 }
 
-/// Counts of a run: numbers by call, those with a late place too, shapes of words by call, types of sound packets, and kinds of cases.
+/// Counts of a run: numbers by call, those with a late place too, shapes of words by call, types of sound packets, faults beside a picture line,
+/// and kinds of cases.
 pub struct Tally {
     met: [[u64; NUMBERS]; CALLS],
     late: [[u64; NUMBERS]; CALLS],
     words: BTreeMap<(usize, String), u64>,
     types: [u64; 2],
+    pairs: BTreeMap<(usize, String), u64>,
     kinds: BTreeMap<String, u64>,
 }
 
 impl Tally {
     pub fn new() -> Tally {
-        Tally { met: [[0; NUMBERS]; CALLS], late: [[0; NUMBERS]; CALLS], words: BTreeMap::new(), types: [0; 2], kinds: BTreeMap::new() }
+        Tally {
+            met: [[0; NUMBERS]; CALLS],
+            late: [[0; NUMBERS]; CALLS],
+            words: BTreeMap::new(),
+            types: [0; 2],
+            pairs: BTreeMap::new(),
+            kinds: BTreeMap::new(),
+        }
     }
 
     /// `fields` are those of the right answer.
@@ -131,6 +142,9 @@ impl Tally {
         if let Some(shape) = shape(call, fields) {
             *self.words.entry((which, shape)).or_default() += 1;
         }
+        if let Some(pair) = pair(call, fields).filter(|_| number != 0) {
+            *self.pairs.entry((which, pair)).or_default() += 1;
+        }
         *self.kinds.entry(kind).or_default() += 1;
     }
 
@@ -138,7 +152,8 @@ impl Tally {
         self.met.iter().flatten().sum()
     }
 
-    /// Numbers that can be met in a call, or with a late place, and shapes of words and types of packets, that were not.
+    /// Numbers that can be met in a call, or with a late place, and shapes of words, types of packets and faults beside a picture line, that were
+    /// not.
     pub fn missed(&self) -> Vec<String> {
         let all = (0..CALLS).flat_map(|call| (0..NUMBERS).map(move |number| (call, number)));
         let missed = all.filter(|&(call, number)| self.met[call][number] == 0 && !cannot(call, number));
@@ -149,7 +164,9 @@ impl Tally {
         let shapes = (0..CALLS).flat_map(|call| shapes(call).into_iter().map(move |shape| (call, shape)));
         let no_shape = shapes.filter(|shape| !self.words.contains_key(shape)).map(|(call, shape)| format!("{shape} on {}", NAMES[call]));
         let no_type = (0..2).filter(|&k| self.types[k] == 0).map(|k| format!("a sound packet of type {}", k + 1));
-        never.chain(never_late).chain(no_shape).chain(no_type).collect()
+        let pairs = (0..CALLS).flat_map(|call| pairs(call).into_iter().map(move |pair| (call, pair)));
+        let no_pair = pairs.filter(|pair| !self.pairs.contains_key(pair)).map(|(call, pair)| format!("{pair}, on {}", NAMES[call]));
+        never.chain(never_late).chain(no_shape).chain(no_type).chain(no_pair).collect()
     }
 
     pub fn show(&self) {
@@ -170,6 +187,11 @@ impl Tally {
         for call in [LAY, MXF_WRITE, TEST_PACKET] {
             let times = |shape: String| format!("{shape}: {}", self.words.get(&(call, shape.clone())).unwrap_or(&0));
             println!("  {}: {}", NAMES[call], shapes(call).into_iter().map(times).collect::<Vec<_>>().join("; "));
+        }
+        println!("faults beside a picture line:");
+        for call in [LAY, READ, WALK, MXF_WRITE, MXF_READ] {
+            let times = |pair: String| format!("{pair}: {}", self.pairs.get(&(call, pair.clone())).unwrap_or(&0));
+            println!("  {}: {}", NAMES[call], pairs(call).into_iter().map(times).collect::<Vec<_>>().join("; "));
         }
         println!("sound packets that were tested: {} of type 1, {} of type 2", self.types[0], self.types[1]);
         println!("cannot be met (-):");

@@ -20,7 +20,7 @@ pub fn make(random: &mut Random) -> Case {
         dancs = vec![dancs; times].concat();
     }
     for _ in 0..random.pick(&[0, 0, 1, 1, 1, 2]) {
-        kind = format!("walk, fault: {}", put_fault(random, &mut dancs, of_frame.last_line));
+        kind = format!("walk, fault: {}", put_fault(random, &mut dancs, &of_frame));
     }
     let starts = starts(&dancs);
     let mut string = dancs.concat();
