@@ -12,10 +12,17 @@
 
 enum { LIMIT = 1275, STARTER = 0xE1, CARRIER = 0xE2, LONG = 0xE3, FILL = 0xFF, MOST = 9360 };
 
-static const struct {
+/* The lines on which packets may stand (RP 291-2, table 3a), and 0 for none. */
+static const bool lines_1080[1126] = { [0 ... 6] = true, [9 ... 20] = true, [561 ... 568] = true, [571 ... 583] = true, [1124 ... 1125] = true };
+static const bool lines_720[751] = { [0 ... 6] = true, [9 ... 25] = true, [746 ... 750] = true };
+
+typedef struct {
     size_t sequences;
     uint16_t last_line;
-} systems[] = { { 0, 0 }, { 10, 1125 }, { 12, 1125 }, { 10, 750 } };
+    const bool *is_allowed;
+} frame_system;
+
+static const frame_system systems[] = { { 0, 0, NULL }, { 10, 1125, lines_1080 }, { 12, 1125, lines_1080 }, { 10, 750, lines_720 } };
 
 /* The first fault of the packet at the front of some words, 0 for none. */
 static unsigned packet_fault(const uint16_t *words, size_t left);
@@ -101,8 +108,8 @@ __attribute__((noinline)) static vanc_laid packet_refusal(unsigned fault, size_t
     return (vanc_laid){ .number = fault, .place = place, .word = word_at_fault(fault, words + at, length - at) };
 }
 
-/* 15 and 16 of the DANC packet at the front of some bytes. */
-static unsigned danc_fault(const uint8_t *packet, uint16_t last_line)
+/* 15, 16 and 20 of the DANC packet at the front of some bytes. */
+static unsigned danc_fault(const uint8_t *packet, const frame_system *system)
 {
     size_t end = packet[5] + 6u;
     uint8_t sum = 0;
@@ -112,8 +119,10 @@ static unsigned danc_fault(const uint8_t *packet, uint16_t last_line)
         return 15;
     if (packet[0] & 0x80) {
         unsigned line = (packet[0] & 0x7Fu) | (packet[1] & 0x0Fu) << 7;
-        if (line == 0 || line > last_line)
+        if (line == 0 || line > system->last_line)
             return 16;
+        if (!system->is_allowed[line])
+            return 20;
     }
     return 0;
 }
@@ -133,7 +142,7 @@ static size_t packs_end(const uint8_t *bytes, size_t total)
 }
 
 /* The string of long packs; `last` is how many string bytes the last pack has. Its packets and length, or a refusal. */
-static vanc_read_back walk(const uint8_t *string, size_t length, size_t last, uint16_t last_line)
+static vanc_read_back walk(const uint8_t *string, size_t length, size_t last, const frame_system *system)
 {
     size_t packets = 0, at = 0;
     while (!(at > length - last && all_fill(string + at, length - at))) {
@@ -141,7 +150,7 @@ static vanc_read_back walk(const uint8_t *string, size_t length, size_t last, ui
             return read_refusal(5, LIMIT);
         if (length - at < 7 || length - at < string[at + 5] + 7u)
             return read_refusal(14, packets);
-        unsigned fault = danc_fault(string + at, last_line);
+        unsigned fault = danc_fault(string + at, system);
         if (fault != 0)
             return read_refusal(fault, packets);
         at += string[at + 5] + 7u;

@@ -81,6 +81,21 @@ static size_t packets_of(const char *list)
     return all;
 }
 
+/* The first packet has no line, the others are spread over all lines on which packets may stand (RP 291-2, table 3a). */
+static uint16_t line_of(uint64_t system, size_t packet)
+{
+    static const struct {
+        size_t lines;
+        uint16_t line[41];
+    } allowed[] = {
+        { 41, { 1,   2,   3,   4,   5,   6,   9,   10,  11,  12,  13,  14,  15,  16,  17,  18,  19,  20,  561,  562, 563,
+                564, 565, 566, 567, 568, 571, 572, 573, 574, 575, 576, 577, 578, 579, 580, 581, 582, 583, 1124, 1125 } },
+        { 28, { 1, 2, 3, 4, 5, 6, 9, 10, 11, 12, 13, 14, 15, 16, 17, 18, 19, 20, 21, 22, 23, 24, 25, 746, 747, 748, 749, 750 } },
+    };
+    size_t which = system == 3;
+    return packet == 0 ? 0 : allowed[which].line[packet * 37 % allowed[which].lines];
+}
+
 static void make_sheet(uint64_t system, const char *list)
 {
     packets = packets_of(list);
@@ -102,7 +117,7 @@ static void make_sheet(uint64_t system, const char *list)
     sheet[1] = (uint16_t)system;
     sheet[2] = (uint16_t)packets;
     for (size_t k = 0; k < packets; k++) {
-        sheet[3 + 2 * k] = (uint16_t)(k * 37 % 1126);
+        sheet[3 + 2 * k] = line_of(system, k);
         sheet[4 + 2 * k] = (uint16_t)(k % 4);
     }
     *section = (uint16_t)words;

@@ -171,6 +171,9 @@ vanc_laid baseline_lay(const uint16_t *sheet, size_t sheet_len, uint64_t packing
     for (size_t k = 0; k < count; k++)
         if (locations[2 * k] > systems[sheet[1]].last_line || locations[2 * k + 1] > 3)
             return lay_refusal(6, k);
+    for (size_t k = 0; k < count; k++)
+        if (!systems[sheet[1]].is_allowed[locations[2 * k]])
+            return lay_refusal(20, k);
 
     size_t packets, packs;
     fault = count_packets(words, length, &packets, &packs);
@@ -203,7 +206,7 @@ static bool all_fill(const uint8_t *bytes, size_t size)
 }
 
 /* The string of packs of 5; its length and its packets, or a refusal. */
-static vanc_read_back open_fives(const uint8_t *bytes, size_t end, uint16_t last_line, uint8_t *string)
+static vanc_read_back open_fives(const uint8_t *bytes, size_t end, const frame_system *system, uint8_t *string)
 {
     size_t packets = 0, length = 0;
     for (size_t at = 0; at < end; packets++) {
@@ -221,7 +224,7 @@ static vanc_read_back open_fives(const uint8_t *bytes, size_t end, uint16_t last
             memcpy(packet + 3 + 4 * i, bytes + at + 6 + 5 * i, 4);
         if (!all_fill(packet + size, 3 + 4 * carriers - size))
             return read_refusal(14, packets);
-        unsigned fault = danc_fault(packet, last_line);
+        unsigned fault = danc_fault(packet, system);
         if (fault != 0)
             return read_refusal(fault, packets);
         length += size;
@@ -295,12 +298,12 @@ vanc_read_back baseline_read(uint64_t system, const uint8_t *area, size_t area_l
         size_t end = packs_end(bytes, total);
         if (end == 0)
             return read_refusal(13, 0);
-        found = open_fives(bytes, end, systems[system].last_line, string);
+        found = open_fives(bytes, end, &systems[system], string);
     } else if (bytes[0] == LONG) {
         size_t length, last;
         if (!open_long(n, bytes, total, string, &length, &last))
             return read_refusal(13, 0);
-        found = walk(string, length, last, systems[system].last_line);
+        found = walk(string, length, last, &systems[system]);
     } else if (!all_fill(bytes, total)) {
         return read_refusal(13, 0);
     }
