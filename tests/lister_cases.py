@@ -7,10 +7,10 @@ import random
 import re
 import struct
 
-from reference import LAST, LIMIT, listing, pack, packet, sheet
+from reference import ENDS, LAST, LIMIT, LINES, listing, pack, packet, sheet
 
 HOME = pathlib.Path(__file__).resolve().parent.parent / "crates" / "lister_cases"
-NUMBERS = (2, 3, 5, 6, 7, 8, 9, 10, 11)
+NUMBERS = (2, 3, 5, 6, 20, 7, 8, 9, 10, 11)
 P = packet(0x45, 0x01, [0x10, 0x80])
 E = packet(0x45, 0x01, [])
 # User words enough that the first, the last and those between are told apart, and the most that there can be.
@@ -29,13 +29,13 @@ def worked():
     yield pack(sheet(1, [(9, 0)], P))
     yield pack(sheet(1, [(9, 0)], E))
     yield pack(sheet(1, [(9, 0)], packet(0x45, 0x01, [0xB8])))
-    yield pack(sheet(1, [(561, 3), (1125, 0), (0, 0), (127, 0)], P * 4))
+    yield pack(sheet(1, [(561, 3), (1125, 0), (0, 0), (583, 0)], P * 4))
     yield pack(sheet(2, [], []))
     yield pack(sheet(3, [(750, 0)], P))
     yield pack(sheet(1, [(1, 1)] * 512, E * 512))
     yield pack(sheet(1, [(1, 0)] * 513, E * 513))  # over the limit before request A6
-    yield pack(sheet(2, [(k % 1126, k % 4) for k in range(LIMIT)], E * LIMIT))
-    yield pack(sheet(2, [(7, 2)] * 124, packet(0, 0x80, [7] * 255) * 124))
+    yield pack(sheet(2, [([0, *LINES[2]][k % 42], k % 4) for k in range(LIMIT)], E * LIMIT))
+    yield pack(sheet(2, [(6, 2)] * 124, packet(0, 0x80, [7] * 255) * 124))
     yield pack(sheet(1, [(0, 0)] * 24, packet(0x61, 1, [1] * 255) * 23 + packet(0x61, 1, [2] * 160)))
     # 2
     yield b""
@@ -78,7 +78,7 @@ def worked():
     # 9
     yield pack(sheet(1, [(9, 0)], P[:8]))
     yield pack(sheet(1, [(9, 0)], flipped(packet(1, 2, [3] * 9)[:14], 8, 0)))
-    yield pack(sheet(1, [(9, 0), (8, 0)], P + packet(1, 2, [3] * 200)[:206]))
+    yield pack(sheet(1, [(9, 0), (10, 0)], P + packet(1, 2, [3] * 200)[:206]))
     # 10
     yield pack(sheet(1, [(9, 0)], [*P[:8], 0x2D8]))
     yield pack(sheet(1, [(9, 0)], flipped(P, 8, 9)))
@@ -90,6 +90,29 @@ def worked():
     yield pack(sheet(1, [(9, 0), (9, 0)], P))
     yield pack(sheet(3, [(9, 0)], P + P))
     yield pack(sheet(3, [(9, 0)] * LIMIT, P))
+
+
+def picture_lines():
+    """Request A3: every end of a run of lines in every system, and 20 beside every other fault of a sheet."""
+    for system in (1, 2, 3):
+        for line in (*ENDS, LAST[system] + 1):
+            yield pack(sheet(system, [(line, line % 4)], E))
+    # The first location is named, and 6 on any location comes before it.
+    yield pack(sheet(1, [(9, 0), (300, 0), (127, 3)], P * 3))
+    yield pack(sheet(1, [(300, 0), (9, 0), (1126, 0)], P * 3))
+    yield pack(sheet(3, [(751, 0), (9, 0), (300, 0)], P * 3))
+    yield pack(sheet(3, [(569, 0), (7, 4)], P * 2))
+    yield pack(sheet(2, [(570, 4)], P))
+    yield pack(sheet(2, [(9, 1)] * (LIMIT - 1) + [(584, 1)], []))
+    # 2, 3 and 5 come before it too; 7 to 11 do not.
+    yield pack(sheet(1, [(300, 0)], P)[:-1])
+    yield pack(sheet(4, [(300, 0)], P))
+    yield pack(sheet(2, [(300, 0)] * (LIMIT + 1), []))
+    for words in (flipped(P, 1, 0), flipped(P, 4, 8), flipped(P, 7, 9), P[:8], flipped(P, 8, 0)):
+        yield pack(sheet(1, [(300, 0)], words))
+        yield pack(sheet(3, [(9, 0), (9, 1), (745, 0)], P + words + P))
+    yield pack(sheet(1, [(300, 0)], []))
+    yield pack(sheet(1, [(9, 0), (8, 0)], P * 3))
 
 
 def wrong_words():
@@ -142,9 +165,10 @@ def words_at_fault():
 def random_sheet(r):
     system = r.choice([1, 2, 3])
     count = r.choice([0, 1, 2, 3, 5, 9, 30])
+    lines = LINES[system] if r.random() < 0.9 else range(1, LAST[system] + 1)
     locations, words = [], []
     for _ in range(count):
-        line = 0 if r.random() < 0.3 else r.randint(1, LAST[system])
+        line = 0 if r.random() < 0.3 else r.choice(lines)
         locations.append((line, r.randint(0, 3)))
         dc = r.choice([0, 1, 2, 3, 4, 5, 20, 254, 255]) if count < 9 else r.randint(0, 9)
         words += packet(r.randrange(256), r.randrange(256), [r.choice([0, 255, r.randrange(256)]) for _ in range(dc)])
@@ -159,7 +183,7 @@ def damaged(r):
         if kind == 0:
             s[at] ^= 1 << r.randrange(16)
         elif kind == 1:
-            s[at] = r.choice([0, 1, 3, 4, 0x3FF, LIMIT + 1, 750, 751, 1125, 1126, 65535])
+            s[at] = r.choice([0, 1, 3, 4, 7, 0x3FF, LIMIT + 1, 569, 750, 751, 1125, 1126, 65535])
         elif kind == 2 and len(s) > 1:
             del s[at]
         elif kind == 3:
@@ -183,11 +207,12 @@ def assert_all_met(texts):
     for shape in shapes:
         assert {place > 0 for number, place, w in refusals if (number, w) == shape} == {False, True}, shape
     assert all(w == 0 for number, _, w in refusals if number not in (7, 8, 9, 10))
+    assert {0, 1, 2, LIMIT - 1} <= {place for number, place, _ in refusals if number == 20}
 
 
 def main():
     r = random.Random(291)
-    cases = list(worked()) + list(words_at_fault())
+    cases = list(worked()) + list(picture_lines()) + list(words_at_fault())
     cases += [pack(random_sheet(r)) for _ in range(100)]
     cases += [pack(damaged(r)) for _ in range(500)]
     texts = [listing(c) for c in cases]

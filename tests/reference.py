@@ -1,8 +1,15 @@
-"""A second implementation of document 01's rules and of the requests A2 and A6, written from the documents and not from the Rattle code: the tests'
-cases are made with it, and it says what has to come out."""
+"""A second implementation of document 01's rules and of the requests A2, A3 and A6, written from the documents and not from the Rattle code: the
+tests' cases are made with it, and it says what has to come out."""
 import struct
 
 LAST = {1: 1125, 2: 1125, 3: 750}
+# Request A3: the lines that RP 291-2, table 3a, has for systems 15 and 16 and for 3 to 7, less those that are kept free for switching.
+LINES_1080 = sorted({1124, 1125, *range(1, 21), *range(561, 584)} - {7, 8, 569, 570})
+LINES_720 = sorted({*range(746, 751), *range(1, 26)} - {7, 8})
+LINES = {1: LINES_1080, 2: LINES_1080, 3: LINES_720}
+ALLOWED = {system: frozenset([0, *lines]) for system, lines in LINES.items()}
+# For cases: the ends of the runs of lines and what stands beside them, the lines between, and one whose header byte is FFh.
+ENDS = (1, 6, 7, 8, 9, 20, 21, 25, 26, 127, 560, 561, 568, 569, 570, 571, 583, 584, 745, 746, 750, 1123, 1124, 1125)
 # Request A6; document 01 had 512 wherever the packet limit stands.
 LIMIT = 1275
 FLAG = [0, 0x3FF, 0x3FF]
@@ -53,7 +60,7 @@ def first_fault(words):
 
 
 def sheet_tests(s):
-    """The tests 2, 3, 5 to 11: (number, place, word, packets), where a packet is (line, flags, words)."""
+    """The tests 2, 3, 5, 6, 20, 7 to 11: (number, place, word, packets), where a packet is (line, flags, words)."""
     if len(s) < 4 or s[0] != 1:
         return 2, 0, 0, None
     count = s[2]
@@ -67,6 +74,9 @@ def sheet_tests(s):
     for k, (line, flags) in enumerate(locations):
         if line > LAST[s[1]] or flags > 3:
             return 6, k, 0, None
+    for k, (line, _) in enumerate(locations):
+        if line not in ALLOWED[s[1]]:
+            return 20, k, 0, None
     words, found, at = s[4 + 2 * count :], [], 0
     while at < len(words):
         fault, at_fault = first_fault(words[at:])
@@ -199,7 +209,7 @@ class Refused(Exception):
 
 
 def judged(system, k, d):
-    """15, 16, or the packet (line, flags, words) of DANC bytes."""
+    """15, 16, 20, or the packet (line, flags, words) of DANC bytes."""
     low = d[3:-1]
     words = [word(b) for b in low]
     if d[-1] != sum(low) & 0xFF:
@@ -209,6 +219,8 @@ def judged(system, k, d):
         line = 0
     elif line == 0 or line > LAST[system]:
         raise Refused(16, k)
+    elif line not in ALLOWED[system]:
+        raise Refused(20, k)
     return line, d[1] >> 7 | (d[1] >> 4 & 1) << 1, [*FLAG, *words, check(words)]
 
 

@@ -9,7 +9,7 @@ import pathlib
 import random
 import struct
 
-from reference import LAST, LIMIT, area_size, danc, lay, packet, read, runs, sheet, sheet_tests, spread, user_bytes
+from reference import ENDS, LAST, LIMIT, LINES, area_size, danc, lay, packet, read, runs, sheet, sheet_tests, spread, user_bytes
 
 HOME = pathlib.Path(__file__).resolve().parent.parent / "crates" / "vanc_cases"
 P = packet(0x45, 0x01, [0x10, 0x80])
@@ -140,6 +140,8 @@ def worked():
     user, _ = user_bytes(2, 1, [(9, 0, packet(0x45, 0x01, []))] * 513)
     yield made_of(1, user[:-40] + [0x80] * 3 + user[-37:])
     yield from words_at_fault()
+    yield from picture_lines()
+    yield from faults_beside_picture_lines()
     yield from at_the_limit()
     yield from behind_the_last()
     yield from late()
@@ -157,6 +159,54 @@ def words_at_fault():
             yield packing, sheet(2, [(9, 0)] * 4, P + twenty + P + words), 11520, 7000, [], 2, 100
 
 
+def on_line(line):
+    """The first two header bytes of a packet with this line and flags 0, as they differ from those of line 9."""
+    return (0x80 | line & 0x7F) ^ 0x89, line >> 7
+
+
+def picture_lines():
+    """Request A3: every end of a run of lines in every system, laid into an area of fill, and read where the header of line 9 was changed to it."""
+    for packing in (1, 2):
+        header = 5 if packing == 1 else 6
+        for system in (1, 2, 3):
+            for line in (*ENDS, LAST[system] + 1):
+                yield sound(packing, of([0], system, line), fill=0xFF)
+                yield sound(packing, of([0], system), [(header + i, flip) for i, flip in enumerate(on_line(line))], fill=0xFF)
+        yield sound(packing, of([0]), [(header + i, flip) for i, flip in enumerate(on_line(300))], room=3)
+
+
+def faults_beside_picture_lines():
+    """20 before and behind every other fault that a sheet or an area can have, in either order of the packets."""
+    cut, cs, dc = P[:8], [*P[:8], P[8] ^ 1], [*P[:5], 0x1CA, *P[6:]]
+    for packing in (1, 2):
+        for locations, words in (
+            ([(9, 0), (300, 0), (127, 0)], P * 3),
+            ([(300, 0), (9, 0), (1126, 0)], P * 3),
+            ([(1126, 0), (300, 0)], P * 2),
+            ([(300, 0), (9, 4)], P * 2),
+            ([(300, 4)], P),
+            ([(9, 0), (300, 0)], [1, *P[1:]] + P),
+            ([(9, 0), (300, 0)], [*P[:4], 0, *P[5:]] + P),
+            ([(9, 0), (300, 0)], P + cut),
+            ([(9, 0), (300, 0)], cs + P),
+            ([(9, 0), (300, 0)], P),
+        ):
+            yield packing, sheet(1, locations, words), 9600, 7, [], 1, 100
+        yield packing, sheet(1, [(300, 0)], P), 11520, 7, [], 2, 100
+        faults = [(9, 0, P), (300, 0, P), (2000, 0, P), (9, 0, cs), (300, 0, cs), (9, 0, dc), (300, 0, dc)]
+        for k, first in enumerate(faults):
+            for other in faults:
+                yield made(packing, 1 + k % 3, [(9, 0, P), first, other])
+    # late locations, and late packets in packing 2, before bytes that are 5 or the end
+    yield 1, sheet(1, [(9, 0)] * (LIMIT - 1) + [(300, 0)], []), 9600, 7, [], 1, 100
+    for k in (0, 1023, 1024, LIMIT - 1):
+        for fill in (0, 3):
+            yield zeros(2, [(7 * k, 0xFF)] + [(8927 - i, 0xFF) for i in range(fill)])
+    for at, byte in ((6, 1), (0, 0x80), (5, 200)):
+        for first, second in ((1030, 1040), (1040, 1030)):
+            yield zeros(2, [(7 * first, 0xFF), (7 * second + at, byte)])
+
+
 def at_the_limit():
     """As many of the smallest packets as a frame holds, and one more; in system 2, packing 2 as many as the limit, with up to three user bytes."""
     for packing, system, most in ((1, 1, 780), (1, 2, 936), (2, 1, 1062), (2, 3, 1062)):
@@ -166,9 +216,9 @@ def at_the_limit():
     yield sound(2, of([1] * 3 + [0] * (LIMIT - 3), 2))
     yield sound(2, of([1] * 4 + [0] * (LIMIT - 4), 2))
     yield sound(2, of([0] * (LIMIT + 1), 2))
-    # 5 comes before 6 to 12
-    for packing, system in ((1, 1), (2, 3)):
-        yield sound(packing, sheet(system, [(2000, 9)] * (LIMIT + 1), P[:8]), room=100)
+    # 5 comes before 6 and 20, and before 7 to 12
+    for packing, system, location in ((1, 1, (2000, 9)), (2, 3, (300, 0))):
+        yield sound(packing, sheet(system, [location] * (LIMIT + 1), P[:8]), room=100)
 
 
 def zeros(system, changes, room=12000):
@@ -232,7 +282,7 @@ def random_list(r, system, most):
 def random_sheet(r, system, most):
     locations, words = [], []
     for dc in random_list(r, system, most):
-        line = 0 if r.random() < 0.3 else r.choice([1, 127, 128, LAST[system], r.randint(1, LAST[system])])
+        line = 0 if r.random() < 0.3 else r.choice([1, LAST[system], r.choice(LINES[system]), r.choice(LINES[system])])
         locations.append((line, r.randrange(4)))
         words += packet(r.randrange(256), r.randrange(256), [r.choice([0, 255, 255, r.randrange(256)]) for _ in range(dc)])
     return sheet(system, locations, words)
@@ -272,7 +322,7 @@ def header(r, places, line):
 
 
 def random_cases(r):
-    for _ in range(90):  # there and back
+    for _ in range(80):  # there and back
         system, packing = r.choice([1, 2, 3]), r.choice([1, 2])
         s = random_sheet(r, system, r.choice([0, 30, 300, 1500, 3000]))
         free = list(free_bits(r, packing, s))[:900] if r.random() < 0.7 else []
@@ -283,6 +333,10 @@ def random_cases(r):
         used = [start + i for start, size in runs(system) for i in range(size)][: r.choice([10, 40, 400, 9360])]
         damages = [(r.choice(used), r.choice([1, 0x80, 0xFF, r.randrange(256)])) for _ in range(r.choice([1, 1, 2, 5]))]
         yield sound(packing, s, damages, room=len(s) + r.choice([-1, 0, 9, 300]), fill=r.randrange(256, 2**31))
+    for _ in range(40):  # one bit of a header's line, or its LE
+        system, packing = r.choice([1, 2, 3]), r.choice([1, 2])
+        s, bit = sheet(system, [(r.choice(LINES[system]), 0), (9, 1)], P * 2), r.randrange(12)
+        yield sound(packing, s, [((5 if packing == 1 else 6) + bit // 8, 1 << bit % 8)], fill=0xFF)
     for _ in range(8):  # over the room, or nearly
         system, packing = r.choice([1, 2, 3]), r.choice([1, 2])
         dcs = random_list(r, system, r.choice([6000, 7440, 8928, 9500]))
@@ -316,7 +370,7 @@ def figure_8():
 
 def main():
     figure_8()
-    r = random.Random(375)
+    r = random.Random(469)
     cases = list(worked()) + list(random_cases(r))
     text, laid, back, words = "", {}, {}, set()
     for case in cases:
@@ -328,6 +382,7 @@ def main():
         words.add((a[0], a[2], a[1] > 0))
     for number, at_fault in ((7, (0, 1, 2, 3, 6)), (8, (3, 4, 5, 6, 15, 25)), (9, (7, 8, 20, 26)), (10, (8, 26))):
         assert {(number, word, later) for word in at_fault for later in (False, True)} <= words, number
+    assert laid[20] >= 90 and back[20] >= 90, (laid[20], back[20])
     data = b"".join(packed(c) for c in cases)
     (HOME / "data").mkdir(parents=True, exist_ok=True)
     (HOME / "data" / "cases").write_bytes(data)

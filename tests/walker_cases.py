@@ -6,7 +6,7 @@ and which answer it is (0 for the last that there is); then the same of steps fr
 import pathlib
 import random
 
-from reference import LIMIT, danc, packet, walk
+from reference import ENDS, LINES, LIMIT, danc, packet, walk
 
 HOME = pathlib.Path(__file__).resolve().parent.parent / "crates" / "walker_cases"
 LAST_ANSWER = 2**64 - 1
@@ -30,16 +30,17 @@ def places(system, string):
         yield (*step, place + step[2])
 
 
-def item(rng, dc=None, last=1125):
+def item(rng, lines, dc=None):
     user = [rng.choice([0, 0xFF, 0xE1, 0xE2, 0xE3, rng.randrange(256)]) for _ in range(rng.choice([0, 1, 2, 3, 4, 5, 20, 255]) if dc is None else dc)]
-    line = rng.choice([0, 1, 9, 127, 255, 256, 561, last])
+    line = rng.choice([0, lines[-1], rng.choice(lines), rng.choice(lines)])
     return list(danc(line, rng.randrange(4), packet(rng.randrange(256), rng.randrange(256), user)))
 
 
 def strings(rng):
-    """(system, string): sound of every length, cut at every place, damaged in every byte, of systems that there are not."""
+    """(system, string): sound of every length, cut at every place, damaged in every byte, of systems that there are not, and with every end of a run
+    of lines between two packets."""
     p = list(danc(9, 0, packet(0x45, 0x01, [0x10, 0x80])))
-    cue = list(danc(127, 0, packet(0x45, 0x01, [0xB8])))
+    cue = list(danc(20, 0, packet(0x45, 0x01, [0xB8])))
     for system in range(5):
         yield system, []
         yield system, p
@@ -49,22 +50,30 @@ def strings(rng):
     for i in range(len(p + cue)):
         for bit in range(8):
             yield 1 + bit % 3, [b ^ (1 << bit) if j == i else b for j, b in enumerate(p + cue)]
-    for line in (0, 1, 750, 751, 1125, 1126, 2047):
-        for system in (1, 2, 3):
+    for line in (0, *ENDS, 751, 1126, 2047):
+        for system in (1 + line % 2, 3):
             yield system, p + [0x80 | line & 0x7F, 0x60 | line >> 7, 0xFF, *p[3:]] + p
+    for line in (0, 1, 300, 750, 751, 1125, 1126, 2047):
+        for system in (1, 2, 3):
             yield system, [line & 0x7F, 0x60 | line >> 7, 0xFF, *p[3:]]
+    for line in (0, 127, 1126):  # 20 beside 14 and 15, and 16 beside both
+        on_line = [0x80 | line & 0x7F, 0x60 | line >> 7, 0xFF, *p[3:]]
+        yield 1, p + on_line[:-1]
+        yield 2, p + [*on_line[:-1], on_line[-1] ^ 1] + p
     for fill in range(1, 12):
         yield 2, p + [0xFF] * fill
     yield 1, [0xFF] * 300
-    yield 1, [b for _ in range(600) for b in item(rng, 0)]
-    yield 2, [b for _ in range(34) for b in item(rng, 255)]
+    yield 1, [b for _ in range(600) for b in item(rng, LINES[1], 0)]
+    yield 2, [b for _ in range(34) for b in item(rng, LINES[2], 255)]
+    both = [line for line in LINES[1] if line in LINES[3]]
     for _ in range(80):
-        whole = [b for _ in range(rng.randrange(1, 9)) for b in item(rng, None, 750)]
+        lines = rng.choice([both, both, both, [*both, 561, 750, 1125, 300]])
+        whole = [b for _ in range(rng.randrange(1, 9)) for b in item(rng, lines)]
         yield rng.randrange(1, 4), whole
         yield rng.randrange(1, 4), whole[: rng.randrange(len(whole) + 1)]
         i = rng.randrange(len(whole))
         yield rng.randrange(1, 4), [*whole[:i], rng.randrange(256), *whole[i + 1 :]]
-    yield 2, [b for _ in range(LIMIT + 1) for b in item(rng, 0)]  # the walker has no limit of packets
+    yield 2, [b for _ in range(LIMIT + 1) for b in item(rng, LINES[2], 0)]  # the walker has no limit of packets
 
 
 def main():
