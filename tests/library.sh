@@ -1,6 +1,6 @@
 #!/usr/bin/env bash
 # The library as others link it: the archive, the header against it and alone, the words of its refusals, the packet limit in every call, the word
-# of a packet that is at fault, the examples in C and Rust built and run.
+# of a packet that is at fault, every line in every call, the examples in C and Rust built and run.
 set -euo pipefail
 cd "$(dirname "$0")/.."
 . tests/machine.sh
@@ -62,7 +62,7 @@ static void print(uint64_t number)
 
 int main(void)
 {
-    for (uint64_t number = 0; number <= 20; number++) {
+    for (uint64_t number = 0; number <= 21; number++) {
         print(number);
     }
     print(4294967297);
@@ -89,7 +89,8 @@ words="0 done
 17 the result is longer than the room for it
 18 it has no line, which an element asks for
 19 the element is not of the form of SMPTE ST 436-1 from here on
-20 no number of a refusal
+20 its line is a picture line, or kept free for switching (7, 8, 569, 570)
+21 no number of a refusal
 4294967297 no number of a refusal"
 cc_for -std=c99 "${strict[@]}" -O2 -I include "$work/words.c" -o "$work/words"
 says "vanc_refusal_text" "$words" "$work/words"
@@ -104,6 +105,11 @@ run "$work/limit" || fail "the packet limit is not kept"
 
 cc_for -std=c99 "${strict[@]}" -O2 -I include tests/words.c "$archive" -o "$work/at_fault"
 run "$work/at_fault" crates/packet_cases/data/words291.txt || fail "another word is told than the one at fault"
+
+# ---- the lines
+
+cc_for -std=c99 "${strict[@]}" -O2 -I include tests/lines.c "$archive" -o "$work/lines"
+run "$work/lines" || fail "a line is taken that is not allowed, or refused that is"
 
 # ---- the examples
 

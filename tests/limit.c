@@ -127,6 +127,7 @@ static void try_packets_at_fault(void)
         size_t location = 3 + 2 * k, packet = 4 + 2 * LIMIT + 7 * k;
         try_number(n, location, 1126, VANC_REFUSED_LOCATION, k, 0);
         try_number(n, location + 1, 4, VANC_REFUSED_LOCATION, k, 0);
+        try_number(n, location, 584, VANC_REFUSED_PICTURE_LINE, k, 0);
         try_number(n, packet + 2, 0, VANC_REFUSED_START, k, 2);
         try_number(n, packet + 4, 0, VANC_REFUSED_WORD, k, 4);
         try_number(n, packet + 6, 0, VANC_REFUSED_CHECKSUM, k, 6);
@@ -134,9 +135,10 @@ static void try_packets_at_fault(void)
     }
     vanc_lay(sheet, n, 2, area, sizeof area);
     for (size_t k = 0; k < LIMIT; k++) {
-        /* LE 1 and line 0; CS; and a DC that is longer than what is left, or has for CS a byte of a later packet. */
+        /* LE 1 and line 0; line 7 for line 9; CS; and a DC that is longer than what is left, or has for CS a byte of a later packet. */
         bool cut = 7 * k + 255 + 7 > STRING;
         try_byte(7 * k, 0x80, VANC_REFUSED_LINE, k);
+        try_byte(7 * k, 0x87, VANC_REFUSED_PICTURE_LINE, k);
         try_byte(7 * k + 6, 0x45, VANC_REFUSED_STORED_CHECKSUM, k);
         try_byte(7 * k + 5, 0xFF, cut ? VANC_REFUSED_LENGTH : VANC_REFUSED_STORED_CHECKSUM, k);
     }

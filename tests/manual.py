@@ -77,12 +77,14 @@ def differences(text, one, three):
 WRONG_ONE = [
     ("its stored checksum is wrong", "its checksum is wrong"),
     (".It 18 Ta packet", ".It 17 Ta packet"),
+    (".It 20 Ta ", ".It 21 Ta "),
     (".It 11 Ta 0 Ta packets and locations differ in number\n", ""),
     ("of version ", "of version 1"),
 ]
 WRONG_THREE = [
     ("VANC_REFUSED_CUT No = 9", "VANC_REFUSED_CUT No = 8"),
     ("VANC_REFUSED_CUT No = 9", "VANC_REFUSED_SHORT No = 9"),
+    ("VANC_REFUSED_PICTURE_LINE No = 20", "VANC_REFUSED_PICTURE_LINE No = 21"),
     ("its stored checksum is wrong.", "its checksum is wrong."),
     ('.Fa "bool fi"\n', ""),
     ("uint64_t packs;", "uint32_t packs;"),

@@ -57,6 +57,13 @@ else
   differs packet.rs 'fault(8, first + k)' 'fault(8, k)'
   differs packet.rs 'fault(9, words.len())' 'fault(9, dc + 6)'
   differs packet.rs 'wrong_flag.unwrap_or(words.len())' 'wrong_flag.filter(|_| words.len() > 6).unwrap_or(words.len())'
+  # The lines: one that is kept free for switching, the ends of two runs, and 20 on one location or packet before what comes before it.
+  differs lines.rs '(7, 8), (569, 570)' '(7, 8), (569, 569)'
+  differs lines.rs '(561, 583)' '(561, 584)'
+  differs lines.rs '(1, 25)' '(1, 26)'
+  differs rules.rs 'refuse_if(line > system' 'refuse_if(system.is_picture_line(line), 20, k)?; refuse_if(line > system'
+  differs packet.rs 'if checksum !=' 'if system.allows((danc[1] % 16) as u16 * 128 + (danc[0] % 128) as u16) \&\& checksum !='
+  differs element.rs 'let coding = fields' 'refuse_if(!system.allows(line as u16), 20, 0)?; let coding = fields'
   echo "second: a changed rule is found"
   # Each buffer ends at a page that cannot be touched.
   "$work/second" 376 "$fenced" "${answer[@]}" fence >"$work/log" || { cat "$work/log"; exit 1; }

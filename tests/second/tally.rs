@@ -27,7 +27,7 @@ const CANNOT: [(usize, &[usize], &str); 17] = [
         "an element is written without packing, area or packs, and has room for every sheet's packets",
     ),
     (MXF_WRITE, &[19], "the element buffer is only written"),
-    (MXF_READ, &[1, 4, 12, 13, 14, 15, 16], "an element has neither packing nor area nor packs; its lines are a matter of 19"),
+    (MXF_READ, &[1, 4, 12, 13, 14, 15, 16], "an element has neither packing nor area nor packs; its lines are a matter of 19 and 20"),
     (MXF_READ, &[2, 6, 7, 8, 9, 10, 11], "these are tests of a sheet, and reading is given none"),
     (MXF_READ, &[18], "an element's packets have lines; line 0 is 19"),
     (TEST_PACKET, &[1, 2, 3, 4, 5, 6], "a packet alone has neither packing nor sheet nor area"),
