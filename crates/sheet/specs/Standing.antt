@@ -1,13 +1,11 @@
--- The locations of a sheet, test 6.
+-- The locations of a sheet, tests 6 and 20.
 -- Assumes nothing.
 use Prim.Native.Nat.{ℕ, suc}
-use mathlib.Core.Bool.{cond, _&&_}
+use mathlib.Core.Bool.{Bool, cond}
 use mathlib.Core.List.{List, [], _∷_}
-use lib.Dec.{ltb}
-use Rattle.rules.specs.Systems.{System, stands}
 
--- "6 | line or flags out of range": how many pairs stand in front of the first that does not
-abbrev pub standingIn : System → List ℕ → ℕ
-standingIn y [] = 0
-standingIn y (line ∷ []) = 0
-standingIn y (line ∷ flags ∷ ls) = cond (stands y line && ltb flags 4) (suc (standingIn y ls)) 0
+-- how many pairs stand in front of the first of which a test of line and flags does not hold
+abbrev pub inFront : (ℕ → ℕ → Bool) → List ℕ → ℕ
+inFront test [] = 0
+inFront test (line ∷ []) = 0
+inFront test (line ∷ flags ∷ ls) = cond (test line flags) (suc (inFront test ls)) 0

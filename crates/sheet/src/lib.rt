@@ -1,4 +1,4 @@
-// The sheet (document 01, "The sheet"): the tests 2, 3 and 5 to 11 of its numbers, in the order in which refusals are given; and, in the
+// The sheet (document 01, "The sheet"): the tests 2, 3, 5 to 11 and 20 of its numbers, in the order in which refusals are given; and, in the
 // module write, writing one.
 // Other calls start with `test`; what each function gives is a definition of the crate rules.
 ghost use mathlib.Core.Path.{_≡_};
@@ -7,10 +7,10 @@ ghost use Prim.Native.Nat.{_<_};
 ghost use Rattle.rules.specs.Systems.{System};
 ghost use Rattle.rules.specs.Sheet.{wordsIn};
 ghost use Rattle.rules.specs.Numbers.{refused};
-ghost use Rattle.rules.specs.Laying.{shaped, listTests};
+ghost use Rattle.rules.specs.Laying.{shaped, locationStands, locationAllowed, listTests};
 ghost use Rattle.rules.specs.Lister.{testedOf, testedWith, testedIn};
 ghost use Rattle.rules.specs.Demands.{Tests};
-ghost use Rattle.sheet.specs.Standing.{standingIn};
+ghost use Rattle.sheet.specs.Standing.{inFront};
 
 mod write;
 
@@ -60,7 +60,7 @@ fn is_shaped(s: &[u16]) -> bool
 // "6 | line or flags out of range | location": how many locations in front of the first at fault. Each is a pair, "line (0 for none,
 // else 1 to the last line) and flags 0 to 3".
 fn standing(last: Line, ls: &[u16]) -> usize
-    ensures { λ r. ⌜ ((y : System) → y .last ≡ last .0 → r ≡ standingIn y (now (ls .entry))) ⌝ }
+    ensures { λ r. ⌜ ((y : System) → y .last ≡ last .0 → r ≡ inFront (locationStands y) (now (ls .entry))) ⌝ }
 {
     let mut k = 0;
     while k < ls.len() / 2 {
@@ -72,7 +72,21 @@ fn standing(last: Line, ls: &[u16]) -> usize
     k
 }
 
-// The tests of the list: "5 | laying: P over [1,275]", 6, 7 to 10 packet by packet, "11 | packets and locations differ in number".
+// 20, "a line in the frame that isn't allowed" (document 02, A3): how many locations in front of the first.
+fn allowed(last: Line, ls: &[u16]) -> usize
+    ensures { λ r. ⌜ ((y : System) → y .last ≡ last .0 → r ≡ inFront (locationAllowed y) (now (ls .entry))) ⌝ }
+{
+    let mut k = 0;
+    while k < ls.len() / 2 {
+        if !frame::may_stand(last, Line(ls[2 * k])) {
+            return k;
+        }
+        k += 1;
+    }
+    k
+}
+
+// The tests of the list: "5 | laying: P over [1,275]", 6, 20, 7 to 10 packet by packet, "11 | packets and locations differ in number".
 fn list_tests(system: u64, last: Line, s: &[u16]) -> Tested
     requires { ⌜ shaped (now s) ≡ true ⌝ }
     ensures { λ r. ⌜ ((y : System) → y .last ≡ last .0 → r ≡ testedIn system (wordsIn (now (s .entry))) (listTests y (now (s .entry)))) ⌝ }
@@ -82,9 +96,14 @@ fn list_tests(system: u64, last: Line, s: &[u16]) -> Tested
         return refusal(5, 0, 0);
     }
     let end = 3 + 2 * p;
-    let k = standing(last, &s[3..end]);
+    let ls = &s[3..end];
+    let k = standing(last, ls);
     if k != p {
         return refusal(6, k as u64, 0);
+    }
+    let a = allowed(last, ls);
+    if a != p {
+        return refusal(20, a as u64, 0);
     }
     let first = end + 1;
     let words = &s[first..];
@@ -102,7 +121,7 @@ fn list_tests(system: u64, last: Line, s: &[u16]) -> Tested
     t
 }
 
-// "the tests 2, 3, 5 to 11" of any numbers whatever: "3 | system not 1 to 3" stands before the list's own.
+// "the tests 2, 3, 5 to 11", and 20, of any numbers whatever: "3 | system not 1 to 3" stands before the list's own.
 pub fn test(s: &[u16]) -> Tested
     ensures { λ r. ⌜ Tests (now (s .entry)) r ⌝ }
 {
