@@ -72,18 +72,30 @@ fn standing(last: Line, ls: &[u16]) -> usize
     k
 }
 
-// 20, "a line in the frame that isn't allowed" (document 02, A3): how many locations in front of the first.
-fn allowed(last: Line, ls: &[u16]) -> usize
-    ensures { λ r. ⌜ ((y : System) → y .last ≡ last .0 → r ≡ inFront (locationAllowed y) (now (ls .entry))) ⌝ }
+// How many locations in front of the first that is out of range or on a line that is not allowed: where there is none, neither 6 nor 20 is
+// given, and the locations are looked at once.
+fn in_place(last: Line, ls: &[u16]) -> usize
+    ensures { λ r. ⌜ ((y : System) → y .last ≡ last .0 → r ≡ inFront (inPlace y) (now (ls .entry))) ⌝ }
 {
     let mut k = 0;
     while k < ls.len() / 2 {
-        if !frame::may_stand(last, Line(ls[2 * k])) {
+        if ls[2 * k + 1] > 3 || !frame::may_stand(last, Line(ls[2 * k])) {
             return k;
         }
         k += 1;
     }
     k
+}
+
+// "after 6 on all locations" 20 (document 02, A3), of P locations of which the k-th is the first that is not in its place.
+fn location_fault(last: Line, p: usize, k: usize, ls: &[u16]) -> Tested
+    requires { ⌜ length (now ls) ≡ 2 * p ⌝ }
+{
+    let first = standing(last, ls);
+    if first != p {
+        return refusal(6, first as u64, 0);
+    }
+    refusal(20, k as u64, 0)
 }
 
 // The tests of the list: "5 | laying: P over [1,275]", 6, 20, 7 to 10 packet by packet, "11 | packets and locations differ in number".
@@ -97,13 +109,9 @@ fn list_tests(system: u64, last: Line, s: &[u16]) -> Tested
     }
     let end = 3 + 2 * p;
     let ls = &s[3..end];
-    let k = standing(last, ls);
+    let k = in_place(last, ls);
     if k != p {
-        return refusal(6, k as u64, 0);
-    }
-    let a = allowed(last, ls);
-    if a != p {
-        return refusal(20, a as u64, 0);
+        return location_fault(last, p, k, ls);
     }
     let first = end + 1;
     let words = &s[first..];
