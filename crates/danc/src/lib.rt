@@ -8,16 +8,16 @@ use frame::may_stand;
 use frame::wide;
 use rules::Step;
 ghost use mathlib.Core.Path.{_≡_};
-ghost use mathlib.Core.Bool.{cond, not};
+ghost use mathlib.Core.Bool.{cond};
 ghost use Prim.Native.Nat.{_+_, _*_, _/_, _%_, _≤_, _<_};
 ghost use lib.Dec.{eqb};
 ghost use lib.ListN.{length, getD, take};
 ghost use Rattle.rules.specs.Base.{allIs, sum};
-ghost use Rattle.rules.specs.Systems.{System, allowed};
+ghost use Rattle.rules.specs.Systems.{System};
 ghost use Rattle.rules.specs.Numbers.{refused};
-ghost use Rattle.rules.specs.Reading.{lineOf, flagsOf, lineFault, bytesFault, stringFault, stringEnds};
+ghost use Rattle.rules.specs.Reading.{flagsOf, bytesFault, stringFault, stringEnds};
 ghost use Rattle.rules.specs.Walker.{step, walk as walked};
-ghost use Rattle.danc.specs.Header.{lineRead};
+ghost use Rattle.danc.specs.Header.{lineRead, lineNumber};
 ghost use Rattle.danc.specs.Code.{base, codeOf};
 ghost use Rattle.danc.specs.Validated.{Within, validated};
 
@@ -57,8 +57,7 @@ pub fn flags_of(h1: u8) -> u16
 
 // "16 | LE is 1 and the line is 0 or past the last", then 20, "a line in the frame that isn't allowed" (document 02, A3); 0 for neither.
 fn line_fault(last: Line, h0: u8, h1: u8) -> u64
-    ensures { λ r. ⌜ ((y : System) → y .last ≡ last .0
-        → r ≡ cond (lineFault y h0 h1) 16 (cond (not (allowed y (lineOf h0 h1))) 20 0)) ⌝ }
+    ensures { λ r. ⌜ ((y : System) → y .last ≡ last .0 → r ≡ lineNumber y h0 h1) ⌝ }
 {
     if h0 < 128 {
         return 0;

@@ -3,14 +3,16 @@
 // Other calls start with `test`; what each function gives is a definition of the crate rules.
 ghost use mathlib.Core.Path.{_≡_};
 ghost use mathlib.Core.Bool.{true};
-ghost use Prim.Native.Nat.{_<_};
+ghost use Prim.Native.Nat.{ℕ, _*_, _<_};
+ghost use mathlib.Core.List.{List};
+ghost use lib.ListN.{length};
 ghost use Rattle.rules.specs.Systems.{System};
 ghost use Rattle.rules.specs.Sheet.{wordsIn};
-ghost use Rattle.rules.specs.Numbers.{refused};
-ghost use Rattle.rules.specs.Laying.{shaped, locationStands, locationAllowed, listTests};
+ghost use Rattle.rules.specs.Numbers.{Outcome, refused};
+ghost use Rattle.rules.specs.Laying.{shaped, locationStands, listTests};
 ghost use Rattle.rules.specs.Lister.{testedOf, testedWith, testedIn};
 ghost use Rattle.rules.specs.Demands.{Tests};
-ghost use Rattle.sheet.specs.Standing.{inFront};
+ghost use Rattle.sheet.specs.Standing.{inFront, inPlace, locationTests};
 
 mod write;
 
@@ -90,6 +92,8 @@ fn in_place(last: Line, ls: &[u16]) -> usize
 // "after 6 on all locations" 20 (document 02, A3), of P locations of which the k-th is the first that is not in its place.
 fn location_fault(last: Line, p: usize, k: usize, ls: &[u16]) -> Tested
     requires { ⌜ length (now ls) ≡ 2 * p ⌝ }
+    ensures { λ r. ⌜ ((y : System) → y .last ≡ last .0 → k ≡ inFront (inPlace y) (now (ls .entry)) → (k ≡ p → ⊥)
+        → (sys : ℕ) (ws : List ℕ) (o : Outcome) → r ≡ testedIn sys ws (locationTests y (now (ls .entry)) o)) ⌝ }
 {
     let first = standing(last, ls);
     if first != p {
