@@ -37,8 +37,7 @@ pub fn printed(result: &[u8], status: i32, written: &[u8]) -> i32 {
 fn say_refusal(what: &[u8], number: u64, place: u64, word: u64, sheet: &[u16]) {
     let mut why = [0u8; 256];
     let a = text::put_text(&mut why, 0, b": ");
-    let b = refusals::put_place(&mut why, a, number, place, word, sheet);
-    let n = refusals::put_words(&mut why, b, number);
+    let n = refusals::put_fault(&mut why, a, number, place, word, sheet);
     files::say(what, &why[..n]);
 }
 

@@ -7,21 +7,23 @@ use mathlib.Core.Path.{_≡_, refl, sym, ap₂, _∙_}
 use mathlib.Core.Bool.{Bool, true, false, cond, not, _||_}
 use mathlib.Core.List.{List, [], _∷_, map}
 use native.Mathlib.Omega.{arith}
-use lib.Dec.{eqb, ltb, leb}
+use lib.Dec.{eqb, ltb}
 use lib.ListN.{length, getD, take, drop, length-drop, length-take}
 use lib.Seq.{length-take-le, getD-take, getD-drop}
-use borrow.Author.Tests.{ltb-false, leb-true, leb-false, eqb-true, lt-ltb, le-ltb, eq-eqb, ne-eqb, lt-leb}
+use borrow.Author.Tests.{ltb-false, eqb-true, lt-ltb, le-ltb, eq-eqb, ne-eqb, le-leb, lt-leb}
 use Rattle.rules.specs.Base.{sum}
-use Rattle.rules.specs.Systems.{System, system, stands}
+use Rattle.rules.specs.Systems.{System, system, stands, allowed}
 use Rattle.rules.specs.Packet.{Packet, parity, word, sum9, check, coded, checkOf}
 use Rattle.rules.specs.Danc.{written, header}
-use Rattle.rules.specs.Reading.{lineIn, lineOf, packetOfBytes, lineFault, bytesFault, stringFault}
+use Rattle.rules.specs.Reading.{lineIn, lineOf, packetOfBytes, bytesFault, stringFault}
 use Rattle.rules.specs.Walker.{step, walk}
 use Rattle.rules.proofs.Basics.{rest-part}
+use Rattle.rules.proofs.Lines.{allowed-none}
 use Rattle.rules.proofs.Walker.{step-end as ended}
 use Rattle.frame.specs.Systems.{figuresOf}
 use Rattle.frame.specs.declared.Figures.{Figures}
 use Rattle.frame.proofs.Laws.{is-unknown, is-known}
+use Rattle.danc.specs.Header.{lineNumber}
 
 -- ---- the header as it is written
 
@@ -71,22 +73,29 @@ lastOnly last = record { sequences = 0; last = last }
 
 -- the tests of a packet's line, from what the code holds
 module _ (y : System) (last : ℕ) (e : y .last ≡ last) (h0 h1 : ℕ) where
-  pub no-line : h0 < 128 → false ≡ lineFault y h0 h1
-  no-line l = rw (lt-ltb h0 128 l)
+  pub no-line : h0 < 128 → 0 ≡ lineNumber y h0 h1
+  no-line l = rw (lt-ltb h0 128 l, allowed-none y)
 
-  pub line-none : 128 ≤ h0 → lineOf h0 h1 ≡ 0 → true ≡ lineFault y h0 h1
+  pub line-none : 128 ≤ h0 → lineOf h0 h1 ≡ 0 → 16 ≡ lineNumber y h0 h1
   line-none l z = rw (le-ltb h0 128 l, eq-eqb (lineIn h0 h1) 0 (rw (le-ltb h0 128 l) at z))
 
-  pub line-past : 128 ≤ h0 → (lineOf h0 h1 ≡ 0 → ⊥) → ltb last (lineOf h0 h1) ≡ lineFault y h0 h1
-  unfolding stands
-  line-past l n = rw (le-ltb h0 128 l, ne-eqb (lineIn h0 h1) 0 (rw (le-ltb h0 128 l) at n), e) (past (lineIn h0 h1))
-    where
-      go : (a : ℕ) (t : Bool) → leb a last ≡ t → ltb last a ≡ not t
-      go a true f = le-ltb last a (leb-true a last f)
-      go a false f = lt-ltb last a (leb-false a last f)
+  -- LE is 1, with a line
+  module _ (l : 128 ≤ h0) (n : lineOf h0 h1 ≡ 0 → ⊥) where
+    pub line-past : last < lineOf h0 h1 → 16 ≡ lineNumber y h0 h1
+    unfolding stands
+    line-past p =
+        let q : last < lineIn h0 h1 = rw (le-ltb h0 128 l) at p in
+        rw (le-ltb h0 128 l, ne-eqb (lineIn h0 h1) 0 (rw (le-ltb h0 128 l) at n), e, lt-leb (lineIn h0 h1) last q)
 
-      past : (a : ℕ) → ltb last a ≡ not (leb a last)
-      past a = go a (leb a last) refl
+    pub line-in : lineOf h0 h1 ≤ last → (t : Bool) → t ≡ allowed y (lineOf h0 h1) → cond t 0 20 ≡ lineNumber y h0 h1
+    unfolding stands
+    line-in p t f =
+        let q : lineIn h0 h1 ≤ last = rw (le-ltb h0 128 l) at p in
+        rw (← f) (rw (le-ltb h0 128 l, ne-eqb (lineIn h0 h1) 0 (rw (le-ltb h0 128 l) at n), e, le-leb (lineIn h0 h1) last q) (go t))
+      where
+        go : (t : Bool) → _≡_ {A = ℕ} (cond t 0 20) (cond (not t) 20 0)
+        go true = refl
+        go false = refl
 
 -- the bytes from DID to the last user byte have the sum that CS is of, DID and SDID apart
 part-sum : (s : List ℕ) → getD s 5 0 + 7 ≤ length s
@@ -114,9 +123,9 @@ module _ (y : System) (s : List ℕ) (fit : getD s 5 0 + 7 ≤ length s) (dc tot
   unfolding bytesFault
   check-wrong h = rw (same-check, ne-eqb (getD s (dc + 6) 0) total h)
 
-  pub check-right : getD s (dc + 6) 0 ≡ total → (t : Bool) → t ≡ lineFault y (getD s 0 0) (getD s 1 0) → cond t 16 0 ≡ bytesFault y s
+  pub check-right : getD s (dc + 6) 0 ≡ total → lineNumber y (getD s 0 0) (getD s 1 0) ≡ bytesFault y s
   unfolding bytesFault
-  check-right h t f = rw (same-check, eq-eqb (getD s (dc + 6) 0) total h, ← f)
+  check-right h = rw (same-check, eq-eqb (getD s (dc + 6) 0) total h)
 
 -- "fewer than 7 or fewer than DC + 7 bytes remain"
 pub too-few : (y : System) (s : List ℕ) → length s < 7 → 14 ≡ stringFault y s

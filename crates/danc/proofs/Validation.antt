@@ -24,9 +24,9 @@ use Rattle.rules.proofs.Strings.{string-faults}
 use Rattle.danc.proofs.Laws.{fault-room, run-room}
 use Rattle.danc.proofs.Codes.{code-also}
 
--- no fault has a number over 16
-pub fault-small : (y : System) (s : List ℕ) → stringFault y s ≤ 16
-fault-small = string-faults (λ (n : ℕ). n ≤ 16) (omega arith) (omega arith) (omega arith) (omega arith)
+-- no fault has a number over 20
+pub fault-small : (y : System) (s : List ℕ) → stringFault y s ≤ 20
+fault-small = string-faults (λ (n : ℕ). n ≤ 20) (omega arith) (omega arith) (omega arith) (omega arith) (omega arith)
 
 -- the same of a number that a test gave: a refusal has room for it
 pub is-small : (y : System) (s : List ℕ) (n : ℕ) → n ≡ stringFault y s → n < base

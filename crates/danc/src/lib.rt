@@ -4,6 +4,7 @@ use frame::LIMIT;
 use frame::Line;
 use frame::StringByte;
 use frame::figures_of;
+use frame::may_stand;
 use frame::wide;
 use rules::Step;
 ghost use mathlib.Core.Path.{_≡_};
@@ -14,9 +15,9 @@ ghost use lib.ListN.{length, getD, take};
 ghost use Rattle.rules.specs.Base.{allIs, sum};
 ghost use Rattle.rules.specs.Systems.{System};
 ghost use Rattle.rules.specs.Numbers.{refused};
-ghost use Rattle.rules.specs.Reading.{flagsOf, lineFault, bytesFault, stringFault, stringEnds};
+ghost use Rattle.rules.specs.Reading.{flagsOf, bytesFault, stringFault, stringEnds};
 ghost use Rattle.rules.specs.Walker.{step, walk as walked};
-ghost use Rattle.danc.specs.Header.{lineRead};
+ghost use Rattle.danc.specs.Header.{lineRead, lineNumber};
 ghost use Rattle.danc.specs.Code.{base, codeOf};
 ghost use Rattle.danc.specs.Validated.{Within, validated};
 
@@ -54,18 +55,24 @@ pub fn flags_of(h1: u8) -> u16
     (h1 / 128 + 2 * (h1 / 16 % 2)) as u16
 }
 
-// "16 | LE is 1 and the line is 0 or past the last": apart from the sum, so that which lines may stand is said in one place.
-fn line_fault(last: Line, h0: u8, h1: u8) -> bool
-    ensures { λ r. ⌜ ((y : System) → y .last ≡ last .0 → r ≡ lineFault y h0 h1) ⌝ }
+// "16 | LE is 1 and the line is 0 or past the last", then 20, "a line in the frame that isn't allowed" (document 02, A3); 0 for neither.
+fn line_fault(last: Line, h0: u8, h1: u8) -> u64
+    ensures { λ r. ⌜ ((y : System) → y .last ≡ last .0 → r ≡ lineNumber y h0 h1) ⌝ }
 {
     if h0 < 128 {
-        return false;
+        return 0;
     }
     let line = line_of(h0, h1);
     if line.0 == 0 {
-        return true;
+        return 16;
     }
-    last.0 < line.0
+    if last.0 < line.0 {
+        return 16;
+    }
+    if may_stand(last, line) {
+        return 0;
+    }
+    20
 }
 
 // "Summing bytes: the low eight bits agree", and a stored CS byte has no others: the sum of some bytes onto one that was begun. From DID to
@@ -83,7 +90,7 @@ fn sum_onto(begun: u32, s: &[u8]) -> u8
     (sum % 256) as u8
 }
 
-// "15 | stored CS byte is not the sum's low byte", then 16, of bytes from header byte 0 to CS; 0 for neither. DID and SDID are summed apart:
+// "15 | stored CS byte is not the sum's low byte", then 16, 20, of bytes from header byte 0 to CS; 0 for neither. DID and SDID are summed apart:
 // DC alone is then left to the loop of a packet without user bytes, and 256 bytes of the longest, which vectors sum without a rest.
 fn packet_fault(last: Line, s: &[u8]) -> u64
     requires { ⌜ getD (now s) 5 0 + 7 ≤ length (now s) ⌝ }
@@ -95,13 +102,10 @@ fn packet_fault(last: Line, s: &[u8]) -> u64
     if s[end] != sum {
         return 15;
     }
-    if line_fault(last, s[0], s[1]) {
-        return 16;
-    }
-    0
+    line_fault(last, s[0], s[1])
 }
 
-// "14 is given if fewer than 7 or fewer than DC + 7 bytes remain", then 15, 16, of the packet at the front; 0 for none.
+// "14 is given if fewer than 7 or fewer than DC + 7 bytes remain", then 15, 16, 20, of the packet at the front; 0 for none.
 pub fn fault(last: Line, s: &[u8]) -> u64
     ensures { λ r. ⌜ ((y : System) → y .last ≡ last .0 → r ≡ stringFault y (now (s .entry))) ⌝ }
 {
@@ -126,7 +130,7 @@ fn answer(number: u64, place: u64, length: u64) -> Step
     }
 }
 
-// "Each step gives the next packet's place and length, the string's end, or 14, 15 or 16". The place is any number that a caller
+// "Each step gives the next packet's place and length, the string's end, or 14, 15 or 16", and 20. The place is any number that a caller
 // hands in: it is compared before it is an index.
 pub fn walk(system: u64, string: &[u8], place: StringByte) -> Step
     ensures { λ r. ⌜ r ≡ walked system (now (string .entry)) (place .0) ⌝ }
@@ -189,7 +193,7 @@ pub fn refusal(number: u64, packet: usize) -> usize
 }
 
 // "A string is nothing, or one packet and then a string that is shorter by that packet": the bytes left fall at each call. At a
-// packet boundary the end is tested, then "5 | .. after [1,275] packets, not the end", 14, 15, 16. Over an array, and with a number as
+// packet boundary the end is tested, then "5 | .. after [1,275] packets, not the end", 14, 15, 16, 20. Over an array, and with a number as
 // answer, the calls become a loop.
 fn packets_from(last: Line, room: usize, us: &[u8; 9360], end: usize, at: usize, k: usize) -> usize
     requires { ⌜ (length (now us) ≡ 9360) × Within end at k ⌝ }

@@ -1,5 +1,5 @@
 // The frame: the three systems with their figures, where the blocks of an area start, and user bytes out of an area and into it.
-// Moving the bytes is in blocks.rt.
+// Moving the bytes is in blocks.rt, the lines on which a packet may stand in lines.rt.
 ghost use mathlib.Core.Path.{_≡_};
 ghost use Prim.Native.Nat.{_<_};
 ghost use Rattle.rules.specs.Blocks.{blockStart};
@@ -7,6 +7,9 @@ ghost use Rattle.frame.specs.Systems.{figuresOf};
 ghost use Rattle.frame.specs.Bytes.{fitsArea, collected, bytesAfter, areaWith};
 
 mod blocks;
+mod lines;
+
+pub use lines::may_stand;
 
 // "P is at most [1,275]" (document 02, A6). Here because every room that counts packets stands on this one.
 pub const LIMIT: usize = 1275;

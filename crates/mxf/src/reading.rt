@@ -1,17 +1,21 @@
-// Reading an element to a sheet (document 02, A1: "on reading 3, 19 .., 5, 17"). The whole element is judged before a number of the sheet
+// Reading an element to a sheet (document 02, A1: "on reading 3, 19 .., 5, 17"; A3: 20 "after 19"). The whole element is judged before a number of the sheet
 // is written.
 use crate::ElementRead;
 use crate::judging::four;
 use crate::judging::judge;
 use crate::judging::refusal;
 use crate::judging::two;
+use frame::Line;
 ghost use Prim.Native.Nat.{_+_, _*_, _≤_, _<_};
 ghost use mathlib.Core.Path.{_≡_};
 ghost use mathlib.Core.Bool.{cond};
 ghost use lib.Dec.{eqb};
 ghost use lib.ListN.{length};
+ghost use Rattle.rules.specs.Systems.{System};
 ghost use Rattle.rules.specs.Numbers.{andThen};
+ghost use Rattle.rules.specs.Laying.{locationAllowed};
 ghost use Rattle.rules.specs.Sheet.{locations, allWords, sheetOf};
+ghost use Rattle.sheet.specs.Standing.{inFront};
 ghost use Rattle.mxf.specs.Served.{fiRead};
 ghost use Rattle.mxf.specs.Judging.{judged};
 ghost use Rattle.mxf.specs.Reading.{lastTests, readOf};
@@ -91,6 +95,24 @@ fn write_sections(system: u64, fi: bool, packets: usize, s: &[u8], out: &mut [u1
     write_packets(packets, s, &mut out[mid + 1..]);
 }
 
+// 20, "a line in the frame that isn't allowed" (document 02, A3): how many packets in front of the first, of an element that has been judged.
+fn allowed(system: u64, fi: bool, last: Line, n: usize, s: &[u8]) -> usize
+    requires { ⌜ Judged system fi n (now s) ⌝ }
+    ensures { λ r. ⌜ ((y : System) → y .last ≡ last .0
+        → r ≡ inFront (locationAllowed y) (locations (packetsOfStructures system fi n (now (s .entry))))) ⌝ }
+{
+    let mut at = 0;
+    let mut k = 0;
+    while k < n {
+        if !frame::may_stand(last, Line(two(s, at) as u16)) {
+            return k;
+        }
+        at += crate::FIELDS + four(s, at + 6);
+        k += 1;
+    }
+    k
+}
+
 // 5 at the limit's place, then 17, "W over 65,535 too", of an element that has been judged: only then is the sheet written.
 fn written(system: u64, fi: bool, j: ElementRead, e: &[u8], sheet: &mut [u16]) -> ElementRead
     requires { ⌜ (system ≤ 3) × (j ≡ readOf system (judged system fi (now e))) × (j .number ≡ 0) ⌝ }
@@ -121,6 +143,11 @@ pub fn read(system: u64, fi: bool, element: &[u8], sheet: &mut [u16]) -> Element
     let j = judge(system, figures.last_line, element);
     if j.number != 0 {
         return j;
+    }
+    let n = j.packets as usize;
+    let k = allowed(system, fi, figures.last_line, n, &element[crate::HEAD..]);
+    if k != n {
+        return refusal(20, k as u64);
     }
     written(system, fi, j, element, sheet)
 }

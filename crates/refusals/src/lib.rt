@@ -1,11 +1,11 @@
-// The numbers of refusals in words: the one table of them (document 01, "Refusals"; document 02, A1). include/vanc.h has the same words for C.
+// The numbers of refusals in words: the one table of them (document 01, "Refusals"; document 02, A1, A3). include/vanc.h has the same words for C.
 ghost use Rattle.io.specs.Counts.{Counts};
 use frame::LIMIT;
 
 mod words;
 
 // The last number.
-pub const LAST: u64 = 19;
+pub const LAST: u64 = 20;
 
 // What is wrong, for a mastering operator.
 pub fn put_words(out: &mut [u8], at: usize, number: u64) -> usize
@@ -105,6 +105,11 @@ fn put_words_of_reading(out: &mut [u8], at: usize, number: u64) -> usize
             at,
             b"the element is not of the form of SMPTE ST 436-1 from here on",
         ),
+        20 => text::put_text(
+            out,
+            at,
+            b"its line is a picture line, or kept free for switching (7, 8, 569, 570)",
+        ),
         _ => put_no_number(out, at),
     }
 }
@@ -163,16 +168,30 @@ fn put_location(out: &mut [u8], at: usize, k: u64, sheet: &[u16]) -> usize
     text::put_text(out, c, b"): ")
 }
 
-// Where it is wrong: what the place of a refusal counts, and for 7 to 10 the word of the packet (document 02, A2). `sheet` is the one that was
-// refused, and without numbers where none was.
-pub fn put_place(
-    out: &mut [u8],
-    at: usize,
-    number: u64,
-    place: u64,
-    word: u64,
-    sheet: &[u16],
-) -> usize
+// Whether a line is kept free for switching ("Vertical lines excluded from use", 003, table 3a; what for, its 5.3): in 1080 in both fields.
+fn is_for_switching(system: u64, line: u64) -> bool {
+    if line == 7 || line == 8 {
+        return true;
+    }
+    system != 3 && (line == 569 || line == 570)
+}
+
+// A location on a line of the frame that packets may not stand on (document 02, A3), and why not: what is not kept free for switching is a picture
+// line.
+fn put_location_not_allowed(out: &mut [u8], at: usize, k: u64, sheet: &[u16]) -> usize
+    ensures { λ r. ⌜ Counts r (now (out .exit)) ⌝ }
+{
+    let a = put_location(out, at, k, sheet);
+    let line = line_of(sheet, k);
+    let b = text::put_labelled(out, a, b"line ", line);
+    if is_for_switching(number_at(sheet, 1), line) {
+        return text::put_text(out, b, b" is kept free for switching");
+    }
+    text::put_text(out, b, b" is a picture line")
+}
+
+// Where it is wrong: what the place of a refusal counts, and for 7 to 10 the word of the packet (document 02, A2).
+fn put_place(out: &mut [u8], at: usize, number: u64, place: u64, word: u64, sheet: &[u16]) -> usize
     ensures { λ r. ⌜ Counts r (now (out .exit)) ⌝ }
 {
     match number {
@@ -182,7 +201,7 @@ pub fn put_place(
             let b = words::put(out, a, sheet, place, word);
             text::put_text(out, b, b": ")
         }
-        14 | 15 | 16 | 18 => {
+        14 | 15 | 16 | 18 | 20 => {
             let a = put_packet(out, at, place, sheet);
             text::put_text(out, a, b": ")
         }
@@ -192,4 +211,23 @@ pub fn put_place(
         }
         _ => text::put_text(out, at, b""),
     }
+}
+
+// Where it is wrong, and what. `sheet` is the one that was refused, and without numbers where none was: then 20 is of a packet that was read, whose
+// line is not at hand.
+pub fn put_fault(
+    out: &mut [u8],
+    at: usize,
+    number: u64,
+    place: u64,
+    word: u64,
+    sheet: &[u16],
+) -> usize
+    ensures { λ r. ⌜ Counts r (now (out .exit)) ⌝ }
+{
+    if number == 20 && sheet.len() != 0 {
+        return put_location_not_allowed(out, at, place, sheet);
+    }
+    let a = put_place(out, at, number, place, word, sheet);
+    put_words(out, a, number)
 }

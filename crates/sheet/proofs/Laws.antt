@@ -1,6 +1,6 @@
 -- What each way through the code says of the rules, over plain values: the proofs of the functions hand these laws what the code knows.
 --
--- In order: the shape (2); locations (6); the list (5, 6, 7 to 10, 11); the sheet (2, 3).
+-- In order: the shape (2); locations (6, 20); the list (5, 6, 20, 7 to 10, 11); the sheet (2, 3).
 -- Assumes nothing.
 use Prim.Native.Nat.{ℕ, zero, suc, _+_, _-_, _*_, _≤_, _<_}
 use mathlib.Core.Path.{_≡_, refl, sym, ap, ap₂, _∙_}
@@ -13,22 +13,23 @@ use lib.Dec.{eqb, ltb, leb, eqb·suc-suc, eqb·zero-suc}
 use lib.ListN.{length, getD, take, drop, length-drop}
 use lib.Seq.{length-take-le, drop-cons}
 use borrow.Author.Tests.{leb-true, not-true, not-false, lt-ltb, le-ltb, le-leb, lt-leb, eq-eqb, ne-eqb}
-use Rattle.rules.specs.Systems.{System, system, stands}
+use Rattle.rules.specs.Systems.{System, system, stands, allowed}
 use Rattle.rules.specs.Packet.{Packet}
 use Rattle.rules.specs.Danc.{bytesOf}
 use Rattle.rules.specs.Packing1.{packsOf}
 use Rattle.rules.specs.Sheet.{limit, systemIn, countIn, locationsIn, wordCountIn, wordsIn}
 use Rattle.rules.specs.Numbers.{Outcome, listed, refused, unless, andThen}
-use Rattle.rules.specs.Laying.{wordAt, fromPacket, packetsOfWords, shaped, locationsStand, located, listTests, sheetTests}
+use Rattle.rules.specs.Laying.{wordAt, fromPacket, packetsOfWords, shaped, unlessAt, locationStands, locationAllowed, located, listTests, sheetTests}
 use Rattle.rules.specs.Lister.{testedOf, testedWith, testedIn, tested}
 use Rattle.rules.specs.declared.Tested.{Tested}
 use Rattle.rules.proofs.Basics.{both, second-false, rest-part}
+use Rattle.rules.proofs.Lines.{allowed-stands}
 use Rattle.rules.proofs.Words.{words-refused}
 use Rattle.packet.specs.Run.{counted}
 use Rattle.frame.specs.Systems.{figuresOf}
 use Rattle.frame.specs.declared.Figures.{Figures}
 use Rattle.frame.proofs.Laws.{last-is, is-unknown, is-known}
-use Rattle.sheet.specs.Standing.{standingIn}
+use Rattle.sheet.specs.Standing.{locationTests, inFront, inPlace}
 
 -- ---- the shape
 
@@ -61,22 +62,85 @@ shaped-long s e =
 
 -- ---- locations
 
--- test 6 of P pairs by how many of them stand in front
-pub stand-count : (y : System) (i p : ℕ) (ls : List ℕ) (o : Outcome) → length ls ≡ 2 * p
-    → locationsStand y i ls o ≡ cond (eqb (standingIn y ls) p) o (refused 6 (i + standingIn y ls))
-stand-count y i zero [] o h = refl
-stand-count y i (suc p) [] o h = absurd (omega arith)
-stand-count y i p (l ∷ []) o h = absurd (omega arith)
-stand-count y i zero (l ∷ f ∷ ls) o h = absurd (omega arith)
-stand-count y i (suc p) (l ∷ f ∷ ls) o h = go (stands y l && ltb f 4) (stand-count y (suc i) p ls o (omega arith))
+-- a test of P pairs by how many of them are in front
+count-at : (n : ℕ) (test : ℕ → ℕ → Bool) (i p : ℕ) (ls : List ℕ) (o : Outcome) → length ls ≡ 2 * p
+    → unlessAt n test i ls o ≡ cond (eqb (inFront test ls) p) o (refused n (i + inFront test ls))
+count-at n test i zero [] o h = refl
+count-at n test i (suc p) [] o h = absurd (omega arith)
+count-at n test i p (l ∷ []) o h = absurd (omega arith)
+count-at n test i zero (l ∷ f ∷ ls) o h = absurd (omega arith)
+count-at n test i (suc p) (l ∷ f ∷ ls) o h = go (test l f) (count-at n test (suc i) p ls o (omega arith))
   where
-    go : (t : Bool) → locationsStand y (suc i) ls o ≡ cond (eqb (standingIn y ls) p) o (refused 6 (suc i + standingIn y ls))
-        → cond t (locationsStand y (suc i) ls o) (refused 6 i)
-        ≡ cond (eqb (cond t (suc (standingIn y ls)) 0) (suc p)) o (refused 6 (i + cond t (suc (standingIn y ls)) 0))
+    go : (t : Bool) → unlessAt n test (suc i) ls o ≡ cond (eqb (inFront test ls) p) o (refused n (suc i + inFront test ls))
+        → cond t (unlessAt n test (suc i) ls o) (refused n i)
+        ≡ cond (eqb (cond t (suc (inFront test ls)) 0) (suc p)) o (refused n (i + cond t (suc (inFront test ls)) 0))
     go true ih =
-        let k : suc i + standingIn y ls ≡ i + suc (standingIn y ls) = omega arith in
-        ih ∙ rw (k, eqb·suc-suc (standingIn y ls) p)
+        let k : suc i + inFront test ls ≡ i + suc (inFront test ls) = omega arith in
+        ih ∙ rw (k, eqb·suc-suc (inFront test ls) p)
     go false ih = let k : i ≡ i + 0 = omega arith in rw (eqb·zero-suc, ← k)
+
+-- where a test holds of all pairs, so does what follows from it
+front-all : (f g : ℕ → ℕ → Bool) → ((l m : ℕ) → f l m ≡ true → g l m ≡ true) → (p : ℕ) (ls : List ℕ) → length ls ≡ 2 * p
+    → inFront f ls ≡ p → inFront g ls ≡ p
+front-all f g w zero [] h e = refl
+front-all f g w (suc p) [] h e = absurd (omega arith)
+front-all f g w p (l ∷ []) h e = absurd (omega arith)
+front-all f g w zero (l ∷ m ∷ ls) h e = absurd (omega arith)
+front-all f g w (suc p) (l ∷ m ∷ ls) h e = go (f l m) refl (front-all f g w p ls (omega arith)) e
+  where
+    go : (t : Bool) → f l m ≡ t → (inFront f ls ≡ p → inFront g ls ≡ p) → cond t (suc (inFront f ls)) 0 ≡ suc p
+        → cond (g l m) (suc (inFront g ls)) 0 ≡ suc p
+    go true q ih e = rw (w l m q) (ap suc (ih (omega arith)))
+    go false q ih e = absurd (omega arith)
+
+-- where a test holds of all pairs, two others that then say the same have as many in front
+front-same : (f g h : ℕ → ℕ → Bool) → ((l m : ℕ) → f l m ≡ true → g l m ≡ h l m) → (p : ℕ) (ls : List ℕ) → length ls ≡ 2 * p
+    → inFront f ls ≡ p → inFront g ls ≡ inFront h ls
+front-same f g h w p [] k e = refl
+front-same f g h w p (l ∷ []) k e = refl
+front-same f g h w zero (l ∷ m ∷ ls) k e = absurd (omega arith)
+front-same f g h w (suc p) (l ∷ m ∷ ls) k e = go (f l m) refl (front-same f g h w p ls (omega arith)) e
+  where
+    go : (t : Bool) → f l m ≡ t → (inFront f ls ≡ p → inFront g ls ≡ inFront h ls) → cond t (suc (inFront f ls)) 0 ≡ suc p
+        → cond (g l m) (suc (inFront g ls)) 0 ≡ cond (h l m) (suc (inFront h ls)) 0
+    go true q ih e = rw (w l m q, ih (omega arith))
+    go false q ih e = absurd (omega arith)
+
+-- P locations: the tests 6 and 20 from how many are in place, and how many stand
+module _ (y : System) (p : ℕ) (ls : List ℕ) (h : length ls ≡ 2 * p) (o : Outcome) where
+  all-stand : inFront (locationStands y) ls ≡ p → locationTests y ls o ≡ unlessAt 20 (locationAllowed y) 0 ls o
+  all-stand e = rw (count-at 6 (locationStands y) 0 p ls _ h, eq-eqb (inFront (locationStands y) ls) p e)
+
+  module _ (sys : ℕ) (ws : List ℕ) (n : ℕ) (e : n ≡ inFront (locationStands y) ls) where
+    -- "line or flags out of range"
+    pub out-of-range : (n ≡ p → ⊥) → testedOf 0 (refused 6 n) ≡ testedIn sys ws (locationTests y ls o)
+    unfolding wordAt
+    out-of-range d = rw (count-at 6 (locationStands y) 0 p ls _ h, zero-add (inFront (locationStands y) ls), ← e, ne-eqb n p d)
+
+    -- all stand, and the k-th is the first on a line that is not allowed
+    pub not-allowed : n ≡ p → (k : ℕ) → k ≡ inFront (inPlace y) ls → (k ≡ p → ⊥)
+        → testedOf 0 (refused 20 k) ≡ testedIn sys ws (locationTests y ls o)
+    unfolding wordAt
+    not-allowed d k f g =
+        let z : inFront (locationStands y) ls ≡ p = sym e ∙ d in
+        let q : k ≡ inFront (locationAllowed y) ls = f ∙ front-same (locationStands y) (inPlace y) (locationAllowed y) flags p ls h z in
+        rw (all-stand z, count-at 20 (locationAllowed y) 0 p ls o h, zero-add (inFront (locationAllowed y) ls), ← q, ne-eqb k p g)
+      where
+        flags : (l m : ℕ) → locationStands y l m ≡ true → inPlace y l m ≡ allowed y l
+        flags l m e = rw (both (stands y l) (ltb m 4) e .1)
+
+  -- all are in place
+  pub all-in-place : (k : ℕ) → k ≡ inFront (inPlace y) ls → k ≡ p → locationTests y ls o ≡ o
+  all-in-place k e d =
+      let z : inFront (inPlace y) ls ≡ p = sym e ∙ d in
+      rw (
+        all-stand (front-all (inPlace y) (locationStands y) standing p ls h z),
+        count-at 20 (locationAllowed y) 0 p ls o h,
+        eq-eqb (inFront (locationAllowed y) ls) p (front-all (inPlace y) (locationAllowed y) (λ l m q. both (ltb m 4) (allowed y l) q .1) p ls h z),
+      )
+    where
+      standing : (l m : ℕ) → inPlace y l m ≡ true → locationStands y l m ≡ true
+      standing l m q = let w = both (ltb m 4) (allowed y l) q in rw (allowed-stands y l (w .1), w .0)
 
 -- the pair at k
 drop-pair : (k : ℕ) (ls : List ℕ) → 2 * k + 1 < length ls
@@ -85,29 +149,50 @@ drop-pair k ls h =
     let e : 2 * (k + 1) ≡ suc (suc (2 * k)) = omega arith in
     rw (e, add-one (2 * k), drop-cons ls (2 * k) 0 (omega arith), drop-cons ls (suc (2 * k)) 0 (omega arith))
 
--- the pair at k stands, or does not: its line, its flags
+-- a test holds of the pair at k, or does not
+module _ (test : ℕ → ℕ → Bool) (k : ℕ) (ls : List ℕ) (h : 2 * k + 1 < length ls) where
+  front-more : test (getD ls (2 * k) 0) (getD ls (2 * k + 1) 0) ≡ true
+      → k + 1 + inFront test (drop (2 * (k + 1)) ls) ≡ k + inFront test (drop (2 * k) ls)
+  front-more e = rw (drop-pair k ls h, e) (omega arith)
+
+  front-stop : test (getD ls (2 * k) 0) (getD ls (2 * k + 1) 0) ≡ false → k ≡ k + inFront test (drop (2 * k) ls)
+  front-stop e = rw (drop-pair k ls h, e) (omega arith)
+
+-- the tests of the pair at k: its line, its flags
 module _ (y : System) (last : ℕ) (is : y .last ≡ last) (k : ℕ) (ls : List ℕ) (h : 2 * k + 1 < length ls) where
-  pub stand-more : getD ls (2 * k) 0 ≤ last → getD ls (2 * k + 1) 0 ≤ 3
-      → k + 1 + standingIn y (drop (2 * (k + 1)) ls) ≡ k + standingIn y (drop (2 * k) ls)
-  unfolding stands
-  stand-more a b =
-      rw (drop-pair k ls h, is, le-leb (getD ls (2 * k) 0) last a, lt-ltb (getD ls (2 * k + 1) 0) 4 (omega arith)) (omega arith)
+  abbrev line : ℕ
+  line = getD ls (2 * k) 0
 
-  pub line-past : last < getD ls (2 * k) 0 → k ≡ k + standingIn y (drop (2 * k) ls)
-  unfolding stands
-  line-past a = rw (drop-pair k ls h, is, lt-leb (getD ls (2 * k) 0) last a) (omega arith)
+  abbrev flags : ℕ
+  flags = getD ls (2 * k + 1) 0
 
-  pub flags-past : 3 < getD ls (2 * k + 1) 0 → k ≡ k + standingIn y (drop (2 * k) ls)
-  flags-past a =
-      let z : (stands y (getD ls (2 * k) 0) && ltb (getD ls (2 * k + 1) 0) 4) ≡ false =
-      second-false (stands y (getD ls (2 * k) 0)) _ (le-ltb (getD ls (2 * k + 1) 0) 4 a) in
-      rw (drop-pair k ls h, z) (omega arith)
+  pub stand-more : line ≤ last → flags ≤ 3
+      → k + 1 + inFront (locationStands y) (drop (2 * (k + 1)) ls) ≡ k + inFront (locationStands y) (drop (2 * k) ls)
+  unfolding stands
+  stand-more a b = front-more (locationStands y) k ls h (rw (is, le-leb line last a, lt-ltb flags 4 (omega arith)))
+
+  pub line-past : last < line → k ≡ k + inFront (locationStands y) (drop (2 * k) ls)
+  unfolding stands
+  line-past a = front-stop (locationStands y) k ls h (rw (is, lt-leb line last a))
+
+  pub flags-past : 3 < flags → k ≡ k + inFront (locationStands y) (drop (2 * k) ls)
+  flags-past a = front-stop (locationStands y) k ls h (second-false (stands y line) _ (le-ltb flags 4 a))
+
+  pub place-more : flags ≤ 3 → allowed y line ≡ true
+      → k + 1 + inFront (inPlace y) (drop (2 * (k + 1)) ls) ≡ k + inFront (inPlace y) (drop (2 * k) ls)
+  place-more a b = front-more (inPlace y) k ls h (rw (lt-ltb flags 4 (omega arith), b))
+
+  pub place-flags : 3 < flags → k ≡ k + inFront (inPlace y) (drop (2 * k) ls)
+  place-flags a = front-stop (inPlace y) k ls h (rw (le-ltb flags 4 a))
+
+  pub place-line : allowed y line ≡ false → k ≡ k + inFront (inPlace y) (drop (2 * k) ls)
+  place-line a = front-stop (inPlace y) k ls h (second-false (ltb flags 4) _ a)
 
 -- no pair is left
-pub stand-end : (y : System) (k : ℕ) (ls : List ℕ) → length ls ≤ 2 * k + 1 → k ≡ k + standingIn y (drop (2 * k) ls)
-stand-end y k ls h = let l = length-drop (2 * k) ls in go (drop (2 * k) ls) (omega arith)
+pub front-end : (test : ℕ → ℕ → Bool) (k : ℕ) (ls : List ℕ) → length ls ≤ 2 * k + 1 → k ≡ k + inFront test (drop (2 * k) ls)
+front-end test k ls h = let l = length-drop (2 * k) ls in go (drop (2 * k) ls) (omega arith)
   where
-    go : (t : List ℕ) → length t ≤ 1 → k ≡ k + standingIn y t
+    go : (t : List ℕ) → length t ≤ 1 → k ≡ k + inFront test t
     go [] h = omega arith
     go (x ∷ []) h = omega arith
     go (x ∷ z ∷ t) h = absurd (omega arith)
@@ -130,6 +215,16 @@ located-figures sys (l ∷ f ∷ ls) (p ∷ ps) h = ap (plus p) (located-figures
 abbrev paired : List ℕ → List Packet → Outcome
 paired s ps = unless 11 (eqb (length ps) (countIn s)) (listed (located (locationsIn s) ps))
 
+-- what the code lends as locations, by a sheet's count
+abbrev lentLocations : List ℕ → ℕ → List ℕ
+lentLocations s p = take (3 + 2 * p - 3) (drop 3 s)
+
+pub pairs : (s : List ℕ) (p : ℕ) → p ≡ countIn s → shaped s ≡ true → length (lentLocations s p) ≡ 2 * p
+pairs s p is sh =
+    let l = length-drop 3 s in
+    let m = shaped-long s sh in
+    length-take-le (3 + 2 * p - 3) (drop 3 s) (omega arith) ∙ (omega arith)
+
 -- a sheet's count, as the code has it
 module _ (sys : ℕ) (y : System) (s : List ℕ) (p : ℕ) (is : p ≡ countIn s) where
   -- "laying: P over [1,275]"
@@ -137,34 +232,25 @@ module _ (sys : ℕ) (y : System) (s : List ℕ) (p : ℕ) (is : p ≡ countIn s
   unfolding listTests wordAt
   too-many h = rw (lt-leb (countIn s) limit (omega arith))
 
-  -- what the code lends as locations, and how many of them it found to stand
-  module _ (sh : shaped s ≡ true) (few : p ≤ limit) (k : ℕ) (st : k ≡ standingIn y (take (3 + 2 * p - 3) (drop 3 s))) where
-    pairs : length (locationsIn s) ≡ 2 * p
-    pairs =
-        let l = length-drop 3 s in
-        let m = shaped-long s sh in
-        length-take-le (2 * countIn s) (drop 3 s) (omega arith) ∙ ap (λ (n : ℕ). 2 * n) (sym is)
+  abbrev ls : List ℕ
+  ls = lentLocations s p
 
-    count-is : k ≡ standingIn y (locationsIn s)
-    count-is = let e : 3 + 2 * p - 3 ≡ 2 * countIn s = omega arith in st ∙ ap (λ (n : ℕ). standingIn y (take n (drop 3 s))) e
+  locations-are : ls ≡ locationsIn s
+  locations-are = let e : 3 + 2 * p - 3 ≡ 2 * countIn s = omega arith in ap (λ (n : ℕ). take n (drop 3 s)) e
 
-    from-six : listTests y s ≡ cond (eqb k p) (andThen (packetsOfWords (wordsIn s)) (paired s)) (refused 6 k)
+  module _ (sh : shaped s ≡ true) (few : p ≤ limit) where
+    from-six : listTests y s ≡ locationTests y ls (andThen (packetsOfWords (wordsIn s)) (paired s))
     unfolding listTests
-    from-six =
-        rw (
-          le-leb (countIn s) limit (omega arith),
-          stand-count y 0 p (locationsIn s) _ pairs,
-          zero-add (standingIn y (locationsIn s)),
-          ← count-is,
-        )
+    from-six = rw (le-leb (countIn s) limit (omega arith), locations-are)
 
-    -- "line or flags out of range"
-    pub out-of-range : (k ≡ p → ⊥) → testedOf 0 (refused 6 k) ≡ testedIn sys (wordsIn s) (listTests y s)
-    unfolding wordAt
-    out-of-range h = rw (from-six, ne-eqb k p h)
+    -- a location at fault
+    pub location-refused : (t : Tested)
+        → ((sys : ℕ) (ws : List ℕ) (o : Outcome) → t ≡ testedIn sys ws (locationTests y ls o))
+        → t ≡ testedIn sys (wordsIn s) (listTests y s)
+    location-refused t h = h sys (wordsIn s) _ ∙ ap (testedIn sys (wordsIn s)) (sym from-six)
 
     -- what the code lends as words, and what it found in them
-    module _ (all : k ≡ p) (t : Tested)
+    module _ (k : ℕ) (in-place : k ≡ inFront (inPlace y) ls) (all : k ≡ p) (t : Tested)
         (found : t ≡ testedOf sys (packetsOfWords (take (length s - (3 + 2 * p + 1)) (drop (3 + 2 * p + 1) s)))) where
       lent : take (length s - (3 + 2 * p + 1)) (drop (3 + 2 * p + 1) s) ≡ wordsIn s
       lent = let e : 3 + 2 * p + 1 ≡ 4 + 2 * countIn s = omega arith in rest-part (3 + 2 * p + 1) s ∙ ap (λ (n : ℕ). drop n s) e
@@ -173,7 +259,7 @@ module _ (sys : ℕ) (y : System) (s : List ℕ) (p : ℕ) (is : p ≡ countIn s
       found-is = found ∙ ap (λ (ws : List ℕ). testedOf sys (packetsOfWords ws)) lent
 
       from-words : listTests y s ≡ andThen (packetsOfWords (wordsIn s)) (paired s)
-      from-words = rw (from-six, eq-eqb k p all)
+      from-words = from-six ∙ all-in-place y p ls (pairs s p is sh) _ k in-place all
 
       -- a packet at fault, and its word
       pub packet-refused : (t .number ≡ 0 → ⊥) → (w : ℕ)
@@ -218,7 +304,7 @@ module _ (sys : ℕ) (y : System) (s : List ℕ) (p : ℕ) (is : p ≡ countIn s
           let l = list-of z in
           let n : length (l .0) ≡ p = ap (λ (x : Tested). x .packets) (sym (l .2)) ∙ h in
           rw (from-words, l .1, eq-eqb (length (l .0)) (countIn s) (n ∙ is))
-          (l .2 ∙ sym (located-figures sys (locationsIn s) (l .0) (pairs ∙ ap (λ (m : ℕ). 2 * m) (sym n))))
+          (l .2 ∙ sym (located-figures sys (locationsIn s) (l .0) (ap length (sym locations-are) ∙ pairs s p is sh ∙ ap (λ (m : ℕ). 2 * m) (sym n))))
 
 -- ---- the sheet
 

@@ -1,16 +1,18 @@
-// The sheet (document 01, "The sheet"): the tests 2, 3 and 5 to 11 of its numbers, in the order in which refusals are given; and, in the
+// The sheet (document 01, "The sheet"): the tests 2, 3, 5 to 11 and 20 of its numbers, in the order in which refusals are given; and, in the
 // module write, writing one.
 // Other calls start with `test`; what each function gives is a definition of the crate rules.
 ghost use mathlib.Core.Path.{_≡_};
 ghost use mathlib.Core.Bool.{true};
-ghost use Prim.Native.Nat.{_<_};
+ghost use Prim.Native.Nat.{ℕ, _*_, _<_};
+ghost use mathlib.Core.List.{List};
+ghost use lib.ListN.{length};
 ghost use Rattle.rules.specs.Systems.{System};
 ghost use Rattle.rules.specs.Sheet.{wordsIn};
-ghost use Rattle.rules.specs.Numbers.{refused};
-ghost use Rattle.rules.specs.Laying.{shaped, listTests};
+ghost use Rattle.rules.specs.Numbers.{Outcome, refused};
+ghost use Rattle.rules.specs.Laying.{shaped, locationStands, listTests};
 ghost use Rattle.rules.specs.Lister.{testedOf, testedWith, testedIn};
 ghost use Rattle.rules.specs.Demands.{Tests};
-ghost use Rattle.sheet.specs.Standing.{standingIn};
+ghost use Rattle.sheet.specs.Standing.{inFront, inPlace, locationTests};
 
 mod write;
 
@@ -60,7 +62,7 @@ fn is_shaped(s: &[u16]) -> bool
 // "6 | line or flags out of range | location": how many locations in front of the first at fault. Each is a pair, "line (0 for none,
 // else 1 to the last line) and flags 0 to 3".
 fn standing(last: Line, ls: &[u16]) -> usize
-    ensures { λ r. ⌜ ((y : System) → y .last ≡ last .0 → r ≡ standingIn y (now (ls .entry))) ⌝ }
+    ensures { λ r. ⌜ ((y : System) → y .last ≡ last .0 → r ≡ inFront (locationStands y) (now (ls .entry))) ⌝ }
 {
     let mut k = 0;
     while k < ls.len() / 2 {
@@ -72,7 +74,35 @@ fn standing(last: Line, ls: &[u16]) -> usize
     k
 }
 
-// The tests of the list: "5 | laying: P over [1,275]", 6, 7 to 10 packet by packet, "11 | packets and locations differ in number".
+// How many locations in front of the first that is out of range or on a line that is not allowed: where there is none, neither 6 nor 20 is
+// given, and the locations are looked at once.
+fn in_place(last: Line, ls: &[u16]) -> usize
+    ensures { λ r. ⌜ ((y : System) → y .last ≡ last .0 → r ≡ inFront (inPlace y) (now (ls .entry))) ⌝ }
+{
+    let mut k = 0;
+    while k < ls.len() / 2 {
+        if ls[2 * k + 1] > 3 || !frame::may_stand(last, Line(ls[2 * k])) {
+            return k;
+        }
+        k += 1;
+    }
+    k
+}
+
+// "after 6 on all locations" 20 (document 02, A3), of P locations of which the k-th is the first that is not in its place.
+fn location_fault(last: Line, p: usize, k: usize, ls: &[u16]) -> Tested
+    requires { ⌜ length (now ls) ≡ 2 * p ⌝ }
+    ensures { λ r. ⌜ ((y : System) → y .last ≡ last .0 → k ≡ inFront (inPlace y) (now (ls .entry)) → (k ≡ p → ⊥)
+        → (sys : ℕ) (ws : List ℕ) (o : Outcome) → r ≡ testedIn sys ws (locationTests y (now (ls .entry)) o)) ⌝ }
+{
+    let first = standing(last, ls);
+    if first != p {
+        return refusal(6, first as u64, 0);
+    }
+    refusal(20, k as u64, 0)
+}
+
+// The tests of the list: "5 | laying: P over [1,275]", 6, 20, 7 to 10 packet by packet, "11 | packets and locations differ in number".
 fn list_tests(system: u64, last: Line, s: &[u16]) -> Tested
     requires { ⌜ shaped (now s) ≡ true ⌝ }
     ensures { λ r. ⌜ ((y : System) → y .last ≡ last .0 → r ≡ testedIn system (wordsIn (now (s .entry))) (listTests y (now (s .entry)))) ⌝ }
@@ -82,9 +112,10 @@ fn list_tests(system: u64, last: Line, s: &[u16]) -> Tested
         return refusal(5, 0, 0);
     }
     let end = 3 + 2 * p;
-    let k = standing(last, &s[3..end]);
+    let ls = &s[3..end];
+    let k = in_place(last, ls);
     if k != p {
-        return refusal(6, k as u64, 0);
+        return location_fault(last, p, k, ls);
     }
     let first = end + 1;
     let words = &s[first..];
@@ -102,7 +133,7 @@ fn list_tests(system: u64, last: Line, s: &[u16]) -> Tested
     t
 }
 
-// "the tests 2, 3, 5 to 11" of any numbers whatever: "3 | system not 1 to 3" stands before the list's own.
+// "the tests 2, 3, 5 to 11", and 20, of any numbers whatever: "3 | system not 1 to 3" stands before the list's own.
 pub fn test(s: &[u16]) -> Tested
     ensures { λ r. ⌜ Tests (now (s .entry)) r ⌝ }
 {

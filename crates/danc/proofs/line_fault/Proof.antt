@@ -1,6 +1,8 @@
--- `danc::line_fault` meets its contract: LE 0; LE 1 with line 0; LE 1 with a line.
+-- `danc::line_fault` meets its contract: LE 0; LE 1 with line 0, with a line past the last, with a line that is allowed or not.
+use mathlib.Core.Path.{sym, _∙_}
+use mathlib.Core.Bool.{true, false}
 use borrow.Author.Needs.{needs}
-use Rattle.danc.proofs.Laws.{no-line, line-none, line-past}
+use Rattle.danc.proofs.Laws.{no-line, line-none, line-past, line-in}
 use Rattle.danc.proofs.line_fault.Statement.{statement}
 use Rattle.danc.proofs.line_fault.Tie as tie
 
@@ -17,8 +19,31 @@ returns-2 c y e =
 
 returns-3 : tie.Need-returns-3
 returns-3 c y e =
-    let f = c .before .before .before .before in
-    rw (f .line-of .ensures) (line-past y _ e _ _ (f .before .if1 .left) (rw (f .line-of .ensures) at (c .before .before .if2 .left)))
+    let n : tie.Else2 = c .before .before .before in
+    let f = n .before .before in
+    let is = f .line-of .ensures in
+    line-past y _ e _ _ (f .before .if1 .left) (rw is at (n .if2 .left)) (rw is at (c .if3 .taken))
+
+may-stand-requires : tie.Need-may-stand-requires
+may-stand-requires c κs = search needs
+
+returns-4 : tie.Need-returns-4
+returns-4 c y e =
+    let p : tie.Else3 = c .before .before in
+    let n : tie.Else2 = p .before .before .before in
+    let f = n .before .before in
+    let is = f .line-of .ensures in
+    line-in y _ e _ _ (f .before .if1 .left) (rw is at (n .if2 .left)) (rw is at (p .if3 .left)) true
+    (sym (c .if4 .taken) ∙ rw is at (c .before .may-stand .ensures y e))
+
+returns-5 : tie.Need-returns-5
+returns-5 c y e =
+    let p : tie.Else3 = c .before .before in
+    let n : tie.Else2 = p .before .before .before in
+    let f = n .before .before in
+    let is = f .line-of .ensures in
+    line-in y _ e _ _ (f .before .if1 .left) (rw is at (n .if2 .left)) (rw is at (p .if3 .left)) false
+    (sym (c .if4 .left) ∙ rw is at (c .before .may-stand .ensures y e))
 
 pub line-fault-spec : {M : Type 1} → statement M
-line-fault-spec = tie.close (tie.spec returns line-of-requires returns-2 returns-3)
+line-fault-spec = tie.close (tie.spec returns line-of-requires returns-2 returns-3 may-stand-requires returns-4 returns-5)

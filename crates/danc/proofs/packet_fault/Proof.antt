@@ -1,6 +1,5 @@
 -- `danc::packet_fault` meets its contract: CS wrong; CS right, and the test of the line.
-use mathlib.Core.Path.{sym, _∙_}
-use mathlib.Core.Bool.{true, false}
+use mathlib.Core.Path.{_∙_}
 use native.Mathlib.Omega.{arith}
 use borrow.Author.Needs.{needs}
 use Rattle.danc.proofs.Laws.{check-wrong, check-right}
@@ -67,19 +66,11 @@ line-fault-requires c κs = search needs
 
 returns-2 : tie.Need-returns-2
 returns-2 c y e =
-    let f = c .before .before .before .before in
+    let f = c .before .before .before in
     let d = f .before .before in
     let a = d .before .before .before .before in
-    check-right y _ (a .before .before .before .pre) _ _ (a .wide .ensures .0) (d .sum-onto .ensures) (f .if1 .left) true
-    (sym (c .if2 .taken) ∙ c .before .line-fault .ensures y e)
-
-returns-3 : tie.Need-returns-3
-returns-3 c y e =
-    let f = c .before .before .before .before in
-    let d = f .before .before in
-    let a = d .before .before .before .before in
-    check-right y _ (a .before .before .before .pre) _ _ (a .wide .ensures .0) (d .sum-onto .ensures) (f .if1 .left) false
-    (sym (c .if2 .left) ∙ c .before .line-fault .ensures y e)
+    c .line-fault .ensures y e
+    ∙ check-right y _ (a .before .before .before .pre) _ _ (a .wide .ensures .0) (d .sum-onto .ensures) (f .if1 .left)
 
 pub packet-fault-spec : {M : Type 1} → statement M
 packet-fault-spec =
@@ -102,5 +93,4 @@ packet-fault-spec =
     shared-slice-read-line-fault
     shared-slice-read-line-fault-2
     line-fault-requires
-    returns-2
-    returns-3)
+    returns-2)

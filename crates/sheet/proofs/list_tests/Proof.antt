@@ -6,7 +6,7 @@ use native.Mathlib.Omega.{arith}
 use lib.ListN.{length}
 use borrow.Author.Needs.{needs}
 use Rattle.rules.specs.Sheet.{limit}
-use Rattle.sheet.proofs.Laws.{shaped-long, too-many, out-of-range, packet-refused, differ, whole}
+use Rattle.sheet.proofs.Laws.{shaped-long, too-many, pairs, location-refused, packet-refused, differ, whole}
 use Rattle.sheet.proofs.list_tests.Statement.{statement}
 use Rattle.sheet.proofs.list_tests.Tie as tie
 
@@ -39,20 +39,22 @@ mul-end c = search needs
 add-end : tie.Need-add-end
 add-end c = search needs
 
-sub-standing : tie.Need-sub-standing
-sub-standing c = search needs
+sub-ls : tie.Need-sub-ls
+sub-ls c = search needs
 
-part-standing-start : tie.Need-part-standing-start
-part-standing-start c = search needs
+part-ls-start : tie.Need-part-ls-start
+part-ls-start c = search needs
 
-part-standing-end : tie.Need-part-standing-end
-part-standing-end c = let l = begins (c .before) in omega arith
+part-ls-end : tie.Need-part-ls-end
+part-ls-end c = let l = begins (c .before) in omega arith
 
-standing-requires : tie.Need-standing-requires
-standing-requires c κs = search needs
+in-place-requires : tie.Need-in-place-requires
+in-place-requires c κs = search needs
 
-refusal-requires-2 : tie.Need-refusal-requires-2
-refusal-requires-2 c κs = search needs
+location-fault-requires : tie.Need-location-fault-requires
+location-fault-requires c κs =
+    let b : tie.After-wide = c .before .before .before .before in
+    pairs (b .before .before .before .args .s .now) _ (b .wide .ensures .0) (b .before .before .before .pre)
 
 returns-2 : tie.Need-returns-2
 unfolding limit
@@ -61,8 +63,8 @@ returns-2 c =
     let s : List ℕ = b .before .before .before .before .args .s .now in
     let p = b .before .wide .ensures .0 in
     λ y e.
-    let k = c .before .before .standing .ensures y e in
-    c .refusal2 .ensures ∙ out-of-range _ y s _ p (b .before .before .before .before .pre) (omega arith) _ k (c .before .if2 .taken)
+    location-refused _ y s _ p (b .before .before .before .before .pre) (omega arith) _
+    (c .location-fault .ensures y e (c .before .before .in-place .ensures y e) (c .before .if2 .taken))
 
 add-first : tie.Need-add-first
 add-first c = search needs
@@ -85,8 +87,8 @@ packets-requires c κs = search needs
 word-named-requires : tie.Need-word-named-requires
 word-named-requires c κs = search needs
 
-refusal-requires-3 : tie.Need-refusal-requires-3
-refusal-requires-3 c κs = search needs
+refusal-requires-2 : tie.Need-refusal-requires-2
+refusal-requires-2 c κs = search needs
 
 returns-3 : tie.Need-returns-3
 unfolding limit
@@ -98,13 +100,13 @@ returns-3 c =
     let p = b .before .wide .ensures .0 in
     let t = r .before .before .packets .ensures in
     λ y e.
-    let k = n .before .standing .ensures y e in
-    c .refusal3 .ensures
+    let k = n .before .in-place .ensures y e in
+    c .refusal2 .ensures
     ∙ packet-refused _ y s _ p (b .before .before .before .before .pre) (omega arith) _ k (n .if2 .left) _ t (r .if3 .taken) _
     (c .before .word-named .ensures)
 
-refusal-requires-4 : tie.Need-refusal-requires-4
-refusal-requires-4 c κs = search needs
+refusal-requires-3 : tie.Need-refusal-requires-3
+refusal-requires-3 c κs = search needs
 
 returns-4 : tie.Need-returns-4
 unfolding limit
@@ -116,8 +118,8 @@ returns-4 c =
     let p = b .before .wide .ensures .0 in
     let t = r .before .before .packets .ensures in
     λ y e.
-    let k = n .before .standing .ensures y e in
-    c .refusal4 .ensures
+    let k = n .before .in-place .ensures y e in
+    c .refusal3 .ensures
     ∙ differ _ y s _ p (b .before .before .before .before .pre) (omega arith) _ k (n .if2 .left) _ t (r .if3 .left) (c .before .if4 .taken)
 
 returns-5 : tie.Need-returns-5
@@ -130,7 +132,7 @@ returns-5 c =
     let p = b .before .wide .ensures .0 in
     let t = r .before .before .packets .ensures in
     λ y e.
-    let k = n .before .standing .ensures y e in
+    let k = n .before .in-place .ensures y e in
     whole _ y s _ p (b .before .before .before .before .pre) (omega arith) _ k (n .if2 .left) _ t (r .if3 .left) (c .if4 .left)
 
 pub list-tests-spec : {M : Type 1} → statement M
@@ -143,11 +145,11 @@ list-tests-spec =
     returns
     mul-end
     add-end
-    sub-standing
-    part-standing-start
-    part-standing-end
-    standing-requires
-    refusal-requires-2
+    sub-ls
+    part-ls-start
+    part-ls-end
+    in-place-requires
+    location-fault-requires
     returns-2
     add-first
     mul-words
@@ -156,8 +158,8 @@ list-tests-spec =
     part-words-end
     packets-requires
     word-named-requires
-    refusal-requires-3
+    refusal-requires-2
     returns-3
-    refusal-requires-4
+    refusal-requires-3
     returns-4
     returns-5)

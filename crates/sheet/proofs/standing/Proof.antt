@@ -10,14 +10,15 @@ use lib.ListN.{length, drop}
 use borrow.Author.Needs.{needs}
 use borrow.Author.Tests.{ltb-true, ltb-false}
 use Rattle.rules.specs.Systems.{System}
-use Rattle.sheet.specs.Standing.{standingIn}
-use Rattle.sheet.proofs.Laws.{stand-more, line-past, flags-past, stand-end}
+use Rattle.rules.specs.Laying.{locationStands}
+use Rattle.sheet.specs.Standing.{inFront}
+use Rattle.sheet.proofs.Laws.{stand-more, line-past, flags-past, front-end}
 use Rattle.sheet.proofs.standing.Statement.{statement}
 use Rattle.sheet.proofs.standing.Tie as tie
 
 abbrev Inv-loop : tie.InvT-loop
 Inv-loop last ls k₀ k =
-    (2 * k ≤ length ls) × ((y : System) → y .last ≡ last .0 → k + standingIn y (drop (2 * k) ls) ≡ standingIn y ls)
+    (2 * k ≤ length ls) × ((y : System) → y .last ≡ last .0 → k + inFront (locationStands y) (drop (2 * k) ls) ≡ inFront (locationStands y) ls)
 
 abbrev μ-loop : tie.MeasureT-loop
 μ-loop last ls k₀ k = length ls - k
@@ -71,7 +72,7 @@ loop-again c =
     (search needs, λ y e. stand-more y _ e (l .k) ls (omega arith) (omega arith) (omega (arith, ltb-false)) ∙ l .inv .1 y e)
 
 returns-2 : tie.Need-returns-2 Inv-loop μ-loop
-returns-2 c = λ y e. stand-end y _ (c .before .before .args .ls .now) (omega arith) ∙ c .before .loop .inv .1 y e
+returns-2 c = λ y e. front-end (locationStands y) _ (c .before .before .args .ls .now) (omega arith) ∙ c .before .loop .inv .1 y e
 
 pub standing-spec : {M : Type 1} → statement M
 standing-spec =

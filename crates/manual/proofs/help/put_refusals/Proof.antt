@@ -9,11 +9,12 @@ use Rattle.manual.proofs.help.put_refusals.Statement.{statement}
 use Rattle.manual.proofs.help.put_refusals.Tie as tie
 use Rattle.manual.proofs.help.put_number.Reads as put-number-reads
 
+-- The numbers of refusals have two columns: whichever is the last, the one behind it is at most 100.
 abbrev Inv-loop : tie.InvT-loop
-Inv-loop out₀ at₀ number₀ out at number = (length out ≡ length out₀) × (at ≤ length out) × (number ≤ 20)
+Inv-loop out₀ at₀ number₀ out at number = (length out ≡ length out₀) × (at ≤ length out) × (number ≤ 100)
 
 abbrev μ-loop : tie.MeasureT-loop
-μ-loop out₀ at₀ number₀ out at number = 20 - number
+μ-loop out₀ at₀ number₀ out at number = 100 - number
 
 loop-holds : tie.Need-loop-holds Inv-loop μ-loop
 loop-holds c = search needs

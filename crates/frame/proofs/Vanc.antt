@@ -1,0 +1,153 @@
+-- The lines on which a packet may stand, one run of lines at a time.
+--
+-- In order: no line, and the others; 1080; 720; any frame.
+-- Assumes nothing.
+use Prim.Native.Nat.{ℕ, _≤_, _<_}
+use mathlib.Core.Path.{_≡_, refl, sym, ap, _∙_}
+use mathlib.Core.Bool.{Bool, true, false, not, _&&_, _||_}
+use native.Mathlib.Omega.{arith}
+use lib.Dec.{eqb, leb}
+use borrow.Author.Tests.{eqb-true, eqb-false, leb-true, leb-false, ne-eqb, le-leb, lt-leb}
+use Rattle.rules.specs.Systems.{System, stands, vanc1080, vanc720, among, isVanc, vancLine, allowed}
+use Rattle.rules.proofs.Lines.{allowed-none}
+
+-- ---- no line, and the others
+
+-- what a test says of a line is whether it is allowed, where it lets no line pass and says of others what the table of the frame does
+by-table : (y : System) (line : ℕ) (t : Bool) → line ≤ y .last → (line ≡ 0 → t ≡ true) → (1 ≤ line → t ≡ vancLine (y .last) line) → t ≡ allowed y line
+unfolding allowed stands
+by-table y line t l none some = go (eqb line 0) refl
+  where
+    go : (z : Bool) → eqb line 0 ≡ z → t ≡ allowed y line
+    go true e = let n : line ≡ 0 = eqb-true line 0 e in none n ∙ rw n (sym (allowed-none y))
+    go false e = let n : 1 ≤ line = (let k = eqb-false line 0 e in omega arith) in rw (e, le-leb line (y .last) l) (some n)
+
+-- ---- 1080
+
+module _ (y : System) (is : y .last ≡ 1125) (line : ℕ) (l : line ≤ 1125) where
+  in-1080 : (t : Bool) → (line ≡ 0 → t ≡ true) → (1 ≤ line → t ≡ isVanc vanc1080 line) → t ≡ allowed y line
+  in-1080 t none some = by-table y line t (omega arith) none (λ k. some k ∙ ap (λ (last : ℕ). vancLine last line) (sym is))
+
+  pub low-1080 : line < 7 → true ≡ allowed y line
+  low-1080 a =
+      in-1080 true (λ z. refl) (λ k.
+      rw (lt-leb 1124 line (omega arith), le-leb 1 line k, le-leb line 20 (omega arith), lt-leb 7 line a, lt-leb 569 line (omega arith)))
+
+  pub first-1080 : 7 ≤ line → line < 21 → leb 9 line ≡ allowed y line
+  first-1080 a b = in-1080 (leb 9 line) (λ z. absurd (omega arith)) (λ k. go (leb 9 line) refl)
+    where
+      go : (t : Bool) → leb 9 line ≡ t → t ≡ isVanc vanc1080 line
+      go true e =
+          let c : 9 ≤ line = leb-true 9 line e in
+          rw (
+            lt-leb 1124 line (omega arith),
+            le-leb 1 line (omega arith),
+            le-leb line 20 (omega arith),
+            le-leb 7 line a,
+            lt-leb line 8 c,
+            lt-leb 569 line (omega arith),
+          )
+      go false e =
+          let c : line < 9 = leb-false 9 line e in
+          rw (lt-leb 1124 line (omega arith), le-leb 1 line (omega arith), le-leb line 20 (omega arith), le-leb 7 line a, le-leb line 8 (omega arith))
+
+  pub picture-1080 : 21 ≤ line → line < 561 → false ≡ allowed y line
+  picture-1080 a b =
+      in-1080 false (λ z. absurd (omega arith)) (λ k.
+      rw (lt-leb 1124 line (omega arith), le-leb 1 line k, lt-leb line 20 a, lt-leb 561 line b))
+
+  pub before-1080 : 561 ≤ line → line < 569 → true ≡ allowed y line
+  before-1080 a b =
+      in-1080 true (λ z. refl) (λ k.
+      rw (
+        lt-leb 1124 line (omega arith),
+        le-leb 1 line k,
+        lt-leb line 20 (omega arith),
+        le-leb 561 line a,
+        le-leb line 583 (omega arith),
+        le-leb 7 line (omega arith),
+        lt-leb line 8 (omega arith),
+        lt-leb 569 line b,
+      ))
+
+  pub second-1080 : 569 ≤ line → line < 584 → leb 571 line ≡ allowed y line
+  second-1080 a b = in-1080 (leb 571 line) (λ z. absurd (omega arith)) (λ k. go (leb 571 line) refl)
+    where
+      available : among (vanc1080 .available) line ≡ true
+      available =
+          rw (
+            lt-leb 1124 line (omega arith),
+            le-leb 1 line (omega arith),
+            lt-leb line 20 (omega arith),
+            le-leb 561 line (omega arith),
+            le-leb line 583 (omega arith),
+          )
+
+      go : (t : Bool) → leb 571 line ≡ t → t ≡ isVanc vanc1080 line
+      go true e =
+          let c : 571 ≤ line = leb-true 571 line e in
+          rw (available, le-leb 7 line (omega arith), lt-leb line 8 (omega arith), le-leb 569 line a, lt-leb line 570 c)
+      go false e =
+          let c : line < 571 = leb-false 571 line e in
+          rw (available, le-leb 7 line (omega arith), lt-leb line 8 (omega arith), le-leb 569 line a, le-leb line 570 (omega arith))
+
+  pub last-1080 : 584 ≤ line → leb 1124 line ≡ allowed y line
+  last-1080 a =
+      in-1080 (leb 1124 line) (λ z. absurd (omega arith)) (λ k.
+      rw (
+        le-leb line 1125 l,
+        le-leb 1 line k,
+        lt-leb line 20 (omega arith),
+        le-leb 561 line (omega arith),
+        lt-leb line 583 a,
+        le-leb 7 line (omega arith),
+        lt-leb line 8 (omega arith),
+        le-leb 569 line (omega arith),
+        lt-leb line 570 (omega arith),
+      )
+      (go (leb 1124 line)))
+    where
+      go : (t : Bool) → t ≡ (((t && true) || (false || (false || false))) && not false)
+      go true = refl
+      go false = refl
+
+-- ---- 720
+
+module _ (y : System) (is : y .last ≡ 750) (line : ℕ) (l : line ≤ 750) where
+  in-720 : (t : Bool) → (line ≡ 0 → t ≡ true) → (1 ≤ line → t ≡ isVanc vanc720 line) → t ≡ allowed y line
+  in-720 t none some = by-table y line t (omega arith) none (λ k. some k ∙ ap (λ (last : ℕ). vancLine last line) (sym is))
+
+  pub low-720 : line < 7 → true ≡ allowed y line
+  low-720 a =
+      in-720 true (λ z. refl) (λ k. rw (lt-leb 746 line (omega arith), le-leb 1 line k, le-leb line 25 (omega arith), lt-leb 7 line a))
+
+  pub first-720 : 7 ≤ line → line < 26 → leb 9 line ≡ allowed y line
+  first-720 a b = in-720 (leb 9 line) (λ z. absurd (omega arith)) (λ k. go (leb 9 line) refl)
+    where
+      go : (t : Bool) → leb 9 line ≡ t → t ≡ isVanc vanc720 line
+      go true e =
+          let c : 9 ≤ line = leb-true 9 line e in
+          rw (lt-leb 746 line (omega arith), le-leb 1 line (omega arith), le-leb line 25 (omega arith), le-leb 7 line a, lt-leb line 8 c)
+      go false e =
+          let c : line < 9 = leb-false 9 line e in
+          rw (lt-leb 746 line (omega arith), le-leb 1 line (omega arith), le-leb line 25 (omega arith), le-leb 7 line a, le-leb line 8 (omega arith))
+
+  pub last-720 : 26 ≤ line → leb 746 line ≡ allowed y line
+  last-720 a =
+      in-720 (leb 746 line) (λ z. absurd (omega arith)) (λ k.
+      rw (le-leb line 750 l, le-leb 1 line k, lt-leb line 25 a, le-leb 7 line (omega arith), lt-leb line 8 (omega arith)) (go (leb 746 line)))
+    where
+      go : (t : Bool) → t ≡ (((t && true) || (false || false)) && not false)
+      go true = refl
+      go false = refl
+
+-- ---- any frame
+
+module _ (y : System) (last : ℕ) (is : y .last ≡ last) (line : ℕ) where
+  pub past-last : last < line → false ≡ allowed y line
+  unfolding allowed stands
+  past-last a = rw (ne-eqb line 0 (λ z. omega arith), lt-leb line (y .last) (omega arith))
+
+  -- a frame that has no table
+  pub any-line : (last ≡ 1125 → ⊥) → (last ≡ 750 → ⊥) → line ≤ last → true ≡ allowed y line
+  any-line m n l = by-table y line true (omega arith) (λ z. refl) (λ k. rw (is, ne-eqb last 1125 m, ne-eqb last 750 n))

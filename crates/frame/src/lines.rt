@@ -1,0 +1,59 @@
+// The lines on which a packet may stand (document 02, A3): no line, or a line of the vertical interval where no signal is switched (003, table
+// 3a). Where a run of lines begins and where it ends is asked in an order that tells the most lines with the fewest tests.
+use crate::Line;
+ghost use mathlib.Core.Path.{_≡_};
+ghost use Prim.Native.Nat.{_≤_};
+ghost use Rattle.rules.specs.Systems.{System, allowed};
+
+// "1124 - 1125; 1 - 20; 561 - 583" without "7 - 8; 569 - 570".
+fn may_stand_in_1080(line: u16) -> bool
+    requires { ⌜ line ≤ 1125 ⌝ }
+    ensures { λ r. ⌜ ((y : System) → y .last ≡ 1125 → r ≡ allowed y line) ⌝ }
+{
+    if line < 21 {
+        if line < 7 {
+            return true;
+        }
+        return 9 <= line;
+    }
+    if line < 561 {
+        return false;
+    }
+    if line < 584 {
+        if line < 569 {
+            return true;
+        }
+        return 571 <= line;
+    }
+    1124 <= line
+}
+
+// "746 - 750; 1 - 25" without "7 - 8".
+fn may_stand_in_720(line: u16) -> bool
+    requires { ⌜ line ≤ 750 ⌝ }
+    ensures { λ r. ⌜ ((y : System) → y .last ≡ 750 → r ≡ allowed y line) ⌝ }
+{
+    if line < 26 {
+        if line < 7 {
+            return true;
+        }
+        return 9 <= line;
+    }
+    746 <= line
+}
+
+// The last line tells 1080 from 720.
+pub fn may_stand(last: Line, line: Line) -> bool
+    ensures { λ r. ⌜ ((y : System) → y .last ≡ last .0 → r ≡ allowed y (line .0)) ⌝ }
+{
+    if last.0 < line.0 {
+        return false;
+    }
+    if last.0 == 1125 {
+        return may_stand_in_1080(line.0);
+    }
+    if last.0 == 750 {
+        return may_stand_in_720(line.0);
+    }
+    true
+}
