@@ -3,8 +3,8 @@
 # error byte for byte, and every file afterwards: bytes, modes, owners, links, and that none is beside them.
 #
 # In order: help; there and back; arguments; names; outputs that are no files; the same file twice; links; modes and owners; files without permission;
-# sheets, areas and elements at their limits; a lighting desk's cues; refusals and their words; the word at fault of a packet; elements of other
-# programs; streams; calls that fail; runs that are killed, and many at once; scripts.
+# sheets, areas and elements at their limits; a lighting desk's cues; refusals and their words; every line; the word at fault of a packet; elements of
+# other programs; streams; calls that fail; runs that are killed, and many at once; scripts.
 set -euo pipefail
 export LC_ALL=C
 umask 022
@@ -44,8 +44,9 @@ root=false
 [ "$(id -u)" != 0 ] || root=true
 
 # A test sets these for a run: the calls that fail (tests/failing.c); the function that starts the command; what stands before each line on standard
-# error; other words that would be as right; a second line of a refusal; the word of a packet that is refused. The run is in `this`.
-fault= start=vanc front='vanc: ' or= second= at_word=0 this=
+# error; other words that would be as right; words in place of a number's own; a second line of a refusal; the word of a packet that is refused. The run
+# is in `this`.
+fault= start=vanc front='vanc: ' or= instead= second= at_word=0 this=
 
 # ---- how a run is made and looked at
 
@@ -145,7 +146,7 @@ wrong() {
 refused() {
   local printed="refused $1 at $2"
   [[ $4 == *read ]] || printed+=" $at_word"
-  expect 1 "$printed" "$3: ${refusals[$1]}${second:+$'\n'$second}" "${@:4}"
+  expect 1 "$printed" "$3: ${instead:-${refusals[$1]}}${second:+$'\n'$second}" "${@:4}"
   sees untouched
 }
 
@@ -223,6 +224,7 @@ refusals=(
   'the result is longer than the room for it'
   'it has no line, which an element asks for'
   'the element is not of the form of SMPTE ST 436-1 from here on'
+  'its line is a picture line, or kept free for switching (7, 8, 569, 570)'
 )
 even="a sheet file has an even number of bytes, 65536 at most"
 unknown="is no command; vanc --help lists them"
@@ -298,7 +300,7 @@ wrong "usage: vanc --version" --version --help
 
 # The words of the refusals: as above, and as the header has them.
 table=
-for number in {1..19}; do
+for number in {1..20}; do
   printf -v row '%2d  %s\n' "$number" "${refusals[number]}"
   table+=$row
 done
@@ -311,9 +313,9 @@ int main(void)
 {
     uint64_t number;
 
-    for (number = 1; number < 20; number++)
+    for (number = 1; number < 21; number++)
         printf("%2d  %s\n", (int)number, vanc_refusal_text(number));
-    printf("%s, %s, %s\n", vanc_refusal_text(0), vanc_refusal_text(20), vanc_refusal_text(UINT64_MAX));
+    printf("%s, %s, %s\n", vanc_refusal_text(0), vanc_refusal_text(21), vanc_refusal_text(UINT64_MAX));
     return 0;
 }
 C
@@ -973,14 +975,14 @@ of_sheet() {
   [[ $3 != *_2 ]] || area=noise_2.area
   cp "$made/$sheet" .
   keep
-  lists $sheet 1 "refused $number at $place $at_word" "${4:+$4: }${refusals[number]}"
+  lists $sheet 1 "refused $number at $place $at_word" "${4:+$4: }${instead:-${refusals[number]}}"
   refused $number $place "$what" lay 1 $sheet $area
   refused $number $place "$what" lay 2 $sheet $area
-  at_word=0 refused 1 0 PACKING lay 3 $sheet $area
+  instead= at_word=0 refused 1 0 PACKING lay 3 $sheet $area
   if [ "$number" -le 3 ]; then
     refused $number $place "$what" lay 1 $sheet cue.sheet
   else
-    at_word=0 refused 4 0 cue.sheet lay 1 $sheet cue.sheet
+    instead= at_word=0 refused 4 0 cue.sheet lay 1 $sheet cue.sheet
   fi
   wrong "nothing.area: $absent" lay 1 $sheet nothing.area
   for output in new.anc noise_1.area nowhere/new.anc; do
@@ -1005,6 +1007,17 @@ of_sheet 6 2 line_3 "location 2 (line 751, flags 2)"
 of_sheet 6 1 flags "location 1 (line 561, flags 4)"
 of_sheet 6 2 zero "location 2 (line 0, flags 4)"
 of_sheet 6 0 both "location 0 (line 65535, flags 65535)"
+of_sheet 6 2 behind "location 2 (line 1126, flags 0)"
+# 20 of a sheet has words of its own, with the line; 569 and 570 are kept free in 1080 alone.
+for words in {127,300,1123}_1 584_2 {26,569,570,745}_3; do
+  instead="line ${words%_*} is a picture line" of_sheet 20 1 $words "location 1 (line ${words%_*}, flags 3)"
+done
+for words in {7,8,569,570}_1 7_2 8_3; do
+  instead="line ${words%_*} is kept free for switching" of_sheet 20 1 $words "location 1 (line ${words%_*}, flags 3)"
+done
+for number in 7 10 11; do
+  instead="line 21 is a picture line" of_sheet 20 2 before_$number "location 2 (line 21, flags 0)"
+done
 of_sheet 7 2 few "packet 2 (no line), word 6 (user word 0) is missing" 6
 for words in "7 1 (flag) is 000h" "8 4 (SDID) is 001h" "9 8 (CS) is missing" "10 8 (CS) is 1D9h"; do
   read -r number word said <<<"$words"
@@ -1021,7 +1034,7 @@ cp "$made/full_1.sheet" late.sheet
 poke late.sheet 65534 '\000\000'
 keep
 last=$((most - 1))
-lists late.sheet 1 "refused 10 at $last 16" "packet $last (line $((1125 - last % 100))), word 16 (CS) is 000h: ${refusals[10]}"
+lists late.sheet 1 "refused 10 at $last 16" "packet $last (line $((1125 - last % 2))), word 16 (CS) is 000h: ${refusals[10]}"
 refused 12 0 spill_1_1.sheet lay 1 spill_1_1.sheet frame.area
 for output in new.file frame.area nowhere/new.file; do
   refused 4 0 laid_1.area read 2 laid_1.area $output
@@ -1031,7 +1044,7 @@ for output in new.file frame.area nowhere/new.file; do
   refused 3 0 SYSTEM mxf-read 4 0 film.sheet $output
   refused 3 0 SYSTEM read 4 film.sheet $output
 done
-for words in "13 0" "14 1" "15 1" "16 1"; do
+for words in "13 0" "14 1" "15 1" "16 1" "20 1"; do
   for packing in 1 2; do
     area=${words% *}_$packing.area
     where=
@@ -1044,7 +1057,7 @@ for words in "13 0" "14 1" "15 1" "16 1"; do
   done
 done
 # 5 comes in system 2 and long packs alone.
-for words in 5_{0,1,2}": $most" {14,15,16}_late": $last"; do
+for words in 5_{0,1,2}": $most" {14,15,16,20}_late": $last"; do
   area=${words%: *}.area number=${words%_*} place=${words#*: }
   where=": packet $place"
   [ $number != 5 ] || where=
@@ -1062,6 +1075,38 @@ for byte in 0 1 15 16; do
     refused 19 $byte "bad.anc: byte $byte" mxf-read 3 0 bad.anc $output
   done
 done
+# Lines 7 and 26 in place of 9 and 13: packet 0's at byte 22, packet 1's at 41. 19 comes before 20, wherever it is.
+for words in '0 23 \007' '1 42 \032'; do
+  read -r packet byte line <<<"$words"
+  cp film.anc bad.anc
+  poke bad.anc $byte "$line"
+  keep
+  for output in new.file frame.area nowhere/new.file; do
+    for fi in 0 1; do
+      refused 20 $packet "bad.anc: packet $packet" mxf-read 3 $fi bad.anc $output
+    done
+  done
+  refused 3 0 SYSTEM mxf-read 4 0 bad.anc new.file
+  poke bad.anc $((41 - 19 * packet)) '\377'
+  keep
+  refused 19 $((41 - 19 * packet)) "bad.anc: byte $((41 - 19 * packet))" mxf-read 3 0 bad.anc new.file
+done
+# 20 comes before 5: the packet over the limit, whose structure is the last of 17 bytes each.
+for y in 1 2 3; do
+  cp "$made/limit_$y.anc" bad.anc
+  poke bad.anc $((22 + 17 * most)) '\001\054'
+  keep
+  refused 20 $most "bad.anc: packet $most" mxf-read $y 0 bad.anc new.file
+done
+
+# ---- every line of each system, listed
+
+step=1
+[ ${#starter[@]} = 0 ] || step=10
+this="vanc list"
+listed=$(python3 "$top/tests/command_lines.py" $step "${starter[@]}" "$program") || fail "a line is not listed as it should be"
+echo "command: $listed runs of vanc list, each with another line or system"
+done_tests=$((done_tests + listed))
 
 # ---- the word at fault: each kind of word, wrong or missing, in a packet with a line, without one, and without a location
 

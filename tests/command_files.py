@@ -13,7 +13,7 @@ packing 2, where they have room.
 Of the samples: laid_K.area, frame.area with cue.sheet laid; film.anc, film.sheet as an element with FI 0; film_0.sheet, that one read.
 
 Refused, N being the number: N_NAME.sheet, and N_K.area, which is not read. NAME says for 7 to 10 whether the packet at fault has a location, which
-names a line (line), or stands alone in a sheet without any (alone). N_late.area is tail_0.area with its last packet damaged.
+names a line (line), or stands alone in a sheet without any (alone), and for 20 the line and the system. N_late.area is tail_0.area with its last packet damaged.
 
 word_NAME_WHERE.sheet: packet 1, the last, has a word that is wrong or missing, as NAME says (see `words_at_fault`); WHERE is line or none, as its
 location has it, or beyond, where it has no location."""
@@ -21,7 +21,7 @@ import os
 import random
 import sys
 
-from reference import LAST, LIMIT, area_size, lay, listing, pack, packet, packs_5, read, sheet, sheet_tests, spread, user_bytes
+from reference import LAST, LIMIT, LINES, area_size, lay, listing, pack, packet, packs_5, read, sheet, sheet_tests, spread, user_bytes
 
 folder = sys.argv[1]
 samples = os.path.join(os.path.dirname(os.path.abspath(__file__)), "..", "samples")
@@ -44,11 +44,11 @@ def load_sheet(name):
 
 
 def packets_of(system, sizes, flags, first_line=1):
-    """A packet for each DC: (line, flags, words), on lines that have as many digits as can be, or from none on."""
-    last = LAST[system]
+    """A packet for each DC: (line, flags, words), on lines that have as many digits as can be, or on none and then on every other that is allowed."""
+    long = [line for line in reversed(LINES[system]) if len(str(line)) == len(str(LAST[system]))]
+    lines = long if first_line else [0, *LINES[system]]
     for k, dc in enumerate(sizes):
-        line = last - k % 100 if first_line else k % (last + 1)
-        yield line, flags(k), packet(k % 256, 255 - k % 256, chance.randbytes(dc))
+        yield lines[k % len(lines)], flags(k), packet(k % 256, 255 - k % 256, chance.randbytes(dc))
 
 
 def sheet_of(system, packets):
@@ -128,7 +128,13 @@ def tails():
         refused_tail(5, LIMIT, user, bytes_laid, {user - 3: 0xFE})
     # The last packet's header, DC and CS, with the three bytes behind it.
     bytes_laid, _ = user_bytes(2, 2, list(packets_of(2, [0] * LIMIT, lambda k: k % 4, first_line=0)))
-    for number, changes in ((14, {-5: 200}), (15, {-4: bytes_laid[-4] ^ 1}), (16, {-10: 0x80, -9: bytes_laid[-9] & 0xF0})):
+    no_bits = bytes_laid[-9] & 0xF0
+    for number, changes in (
+        (14, {-5: 200}),
+        (15, {-4: bytes_laid[-4] ^ 1}),
+        (16, {-10: 0x80, -9: no_bits}),
+        (20, {-10: 0x87, -9: no_bits}),
+    ):
         refused_tail(number, LIMIT - 1, "late", bytes_laid, changes)
 
 
@@ -194,7 +200,16 @@ def refused_sheets():
         refused(3, 0, f"system_{system}", [1, system] + cue[2:])
     for system in LAST:
         refused(5, 0, f"many_{system}", sheet_of(system, list(packets_of(system, [0] * (LIMIT + 1), lambda k: 0))))
-        refused(6, 2, f"line_{system}", sheet(system, locations[:1] + [(750, 3), (LAST[system] + 1, 2)], [w for words in each for w in words]))
+        refused(6, 2, f"line_{system}", sheet(system, locations[:1] + [(20, 3), (LAST[system] + 1, 2)], [w for words in each for w in words]))
+    together = [w for words in each for w in words]
+    for system, lines in ((1, (7, 8, 127, 300, 569, 570, 1123)), (2, (7, 584)), (3, (8, 26, 569, 570, 745))):
+        for line in lines:
+            refused(20, 1, f"{line}_{system}", sheet(system, locations[:1] + [(line, 3), (300, 2)], together))
+    # 6 on any location comes before 20, and 20 on any before 7 to 11.
+    refused(6, 2, "behind", sheet(1, [(300, 0), (300, 3), (1126, 0)], together))
+    refused(20, 2, "before_7", sheet(1, locations[:2] + [(21, 0)], [1, *together[1:]]))
+    refused(20, 2, "before_10", sheet(1, locations[:2] + [(21, 0)], [*together[:-1], 0]))
+    refused(20, 2, "before_11", sheet(1, locations[:2] + [(21, 0)], each[0]))
     refused(6, 1, "flags", sheet(1, [locations[0], (561, 4), locations[2]], [w for words in each for w in words]))
     refused(6, 2, "zero", sheet(1, locations[:2] + [(0, 4)], [w for words in each for w in words]))
     refused(6, 0, "both", sheet(1, [(65535, 65535), (65535, 4), locations[2]], [w for words in each for w in words]))
@@ -280,6 +295,9 @@ def refused_areas():
     refused(14, 1, 2, changed(long, 3 + 9 + 5, 200))
     refused(15, 1, 2, changed(long, 3 + 9 + 6, long[3 + 9 + 6] ^ 1))
     refused(16, 1, 2, changed(changed(long, 3 + 9, 0xFF), 3 + 10, packs[18] | 0x0F))
+    # Lines 127 and 569.
+    refused(20, 1, 1, changed(changed(packs, 17, 0xFF), 18, packs[18] & 0xF0))
+    refused(20, 1, 2, changed(changed(long, 3 + 9, 0xB9), 3 + 10, packs[18] & 0xF0 | 0x04))
 
 
 noise = {system: chance.randbytes(area_size(system)) for system in LAST}
