@@ -12,9 +12,8 @@ use native.Mathlib.Numerals.{add-one}
 use lib.Dec.{eqb}
 use lib.ListN.{length, getD, take, drop, set, length-append, length-drop, length-map, drop-of-length-le}
 use lib.Seq.{sets, sets-eq, getD-drop, drop-cons, drop-drop, drop-at, take-all, take-nil}
-use borrow.Author.Tests.{leb-true}
 use Rattle.rules.specs.Base.{All, one}
-use Rattle.rules.specs.Systems.{System, system, stands}
+use Rattle.rules.specs.Systems.{System, system}
 use Rattle.rules.specs.Packet.{Packet, body, word, words, coded, checkOf, Sound}
 use Rattle.rules.specs.Danc.{written, header, behind, danc, string, bytesOf, stringBytes}
 use Rattle.rules.specs.Sheet.{locations, allWords, countIn, locationsIn, wordsIn}
@@ -22,6 +21,7 @@ use Rattle.rules.specs.Laying.{low}
 use Rattle.rules.specs.Demands.{SheetOf}
 use Rattle.rules.proofs.Basics.{rest-part}
 use Rattle.rules.proofs.Blocks.{facts-of}
+use Rattle.rules.proofs.Lines.{allowed-last}
 use Rattle.rules.proofs.Sheets.{locations-back, words-back}
 use Rattle.rules.proofs.Words.{low-word, packet-words, words-room, map-low}
 use Rattle.rules.proofs.Strings.{danc-length}
@@ -202,9 +202,8 @@ headByte1 line flags = flags % 2 * 128 + 96 + flags / 2 % 2 * 16 + line / 128 % 
 -- from the line and flags in section B
 pub header-next : (y : System) → y .last < 2047 → {ls ws : List ℕ} {k at : ℕ} {left : List Packet} (n : Next y ls ws k at left) {h0 h1 : ℕ}
     → h0 ≡ headByte0 (getD ls k 0) → h1 ≡ headByte1 (getD ls k 0) (getD ls (k + 1) 0) → header (written (n .packet)) ≡ h0 ∷ h1 ∷ 0xFF ∷ []
-unfolding stands
 header-next y hm n e0 e1 =
-    let l : n .packet .line ≤ y .last = leb-true (n .packet .line) (y .last) (n .sound .line) in
+    let l = allowed-last y (n .packet .line) (n .sound .line) in
     rw (e0, e1, n .line, n .flags) (header-written (n .packet) (omega arith) (n .sound .flags))
 
 -- ---- a loop that lays headers
