@@ -44,8 +44,8 @@ root=false
 [ "$(id -u)" != 0 ] || root=true
 
 # A test sets these for a run: the calls that fail (tests/failing.c); the function that starts the command; what stands before each line on standard
-# error; other words that would be as right; words in place of a number's own; a second line of a refusal; the word of a packet that is refused. The run
-# is in `this`.
+# error; other words that would be as right; words in place of a number's own; a second line of a refusal; the word of a packet that is refused. The
+# run is in `this`.
 fault= start=vanc front='vanc: ' or= instead= second= at_word=0 this=
 
 # ---- how a run is made and looked at

@@ -13,7 +13,8 @@ packing 2, where they have room.
 Of the samples: laid_K.area, frame.area with cue.sheet laid; film.anc, film.sheet as an element with FI 0; film_0.sheet, that one read.
 
 Refused, N being the number: N_NAME.sheet, and N_K.area, which is not read. NAME says for 7 to 10 whether the packet at fault has a location, which
-names a line (line), or stands alone in a sheet without any (alone), and for 20 the line and the system. N_late.area is tail_0.area with its last packet damaged.
+names a line (line), or stands alone in a sheet without any (alone), and for 20 the line and the system. N_late.area is tail_0.area with its last
+packet damaged.
 
 word_NAME_WHERE.sheet: packet 1, the last, has a word that is wrong or missing, as NAME says (see `words_at_fault`); WHERE is line or none, as its
 location has it, or beyond, where it has no location."""

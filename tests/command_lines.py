@@ -1,5 +1,5 @@
-"""command_lines.py STEP COMMAND..: every STEP-th line from 0 to 1,126, and the ends of all runs of lines, in each system, listed by the command. One of
-three packets stands on it. Of each run the status, standard output and standard error are compared. Prints how many runs there were."""
+"""command_lines.py STEP COMMAND..: every STEP-th line from 0 to 1,126, and the ends of all runs of lines, in each system, listed by the command. One
+of three packets stands on it. Of each run the status, standard output and standard error are compared. Prints how many runs there were."""
 import os
 import sys
 

@@ -113,14 +113,15 @@ pub fn put_structure_fault(random: &mut Random, structures: &mut [Vec<u8>], syst
             structure.insert(random.below(structure.len()), random.pick(&[0x00, 0xFF, 0x01]));
             "byte too many"
         }
-        _ => {
-            // A line may also be a picture line by one bit of it.
-            let (line, bit) = (two(structure, LINE), 1 << random.below(16));
-            let picture = picture_line(random, system);
-            put_two(structure, LINE, random.pick(&[picture, picture, picture, line ^ bit]));
-            "picture line"
-        }
+        _ => put_picture_line(random, structure, system),
     }
+}
+
+/// A picture line, or one bit of the line changed, which may make it one.
+pub fn put_picture_line(random: &mut Random, structure: &mut [u8], system: &System) -> &'static str {
+    let (line, bit, picture) = (two(structure, LINE), 1 << random.below(16), picture_line(random, system));
+    put_two(structure, LINE, random.pick(&[picture, picture, picture, line ^ bit]));
+    "picture line"
 }
 
 fn put(bytes: &mut [u8], at: usize, byte: u8, name: &'static str) -> &'static str {

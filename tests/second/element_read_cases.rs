@@ -2,7 +2,7 @@
 
 use crate::cases::{how_many, system_and_fi, Call, Case, UNKNOWN};
 use crate::element::{element, read, structure, wrapping, ELEMENT_SHEET_MAX, HEAD, MOST_WORDS};
-use crate::element_faults::{mend_length, pad, put_fault, put_structure_fault};
+use crate::element_faults::{mend_length, pad, put_fault, put_picture_line, put_structure_fault};
 use crate::lines::sound_line_but_0;
 use crate::lists::{dcs_of_words, list, packet};
 use crate::packet::Packet;
@@ -74,7 +74,8 @@ fn written(random: &mut Random, of_frame: &System) -> Draft {
     Draft { kind, element: element(&structures), numbers }
 }
 
-/// As many packets as the limit, one more, and many more, as many as N can say. Often one of the last has a fault, which comes before 5, or two have.
+/// As many packets as the limit, one more, and many more, as many as N can say. Often one of the last has a fault, or a picture line: both come
+/// before 5.
 fn many(random: &mut Random, of_frame: &System) -> Draft {
     let (most, over) = (MOST_PACKETS, MOST_PACKETS + 1);
     let count = random.pick(&[FORMER_LIMIT + 1, most - 1, most, most, most, over, over, over, 1_024, 2_048, 9_362]);
@@ -84,8 +85,14 @@ fn many(random: &mut Random, of_frame: &System) -> Draft {
     with_lines(random, of_frame, &mut packets);
     let packets: Vec<Packet> = (0..count).map(|k| packets[k % packets.len()].clone()).collect();
     let (mut structures, numbers) = structures(of_frame, &packets);
-    for _ in 0..random.pick(&[0, 0, 1, 1, 2]) {
+    if random.chance(30) {
         put_structure_fault(random, &mut structures, of_frame);
+    }
+    if random.chance(20) {
+        let late = random.index(count.min(9));
+        if let Some(structure) = structures.iter_mut().rev().nth(late).filter(|structure| structure.len() > 2) {
+            put_picture_line(random, structure, of_frame);
+        }
     }
     Draft { kind: format!("many, {}", how_many(count)), element: element(&structures), numbers }
 }

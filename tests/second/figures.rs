@@ -4,7 +4,10 @@
 use crate::element::{self, ELEMENT_MAX, ELEMENT_SHEET_MAX, MOST_WORDS};
 use crate::lists::dcs_of_words;
 use crate::packet::{checksum_word, danc, sheet, test_packet, words, Packet};
-use crate::rules::{area_with, lay, long_packs, packs_of_five, read, room, system, walk_by, ReadBack, Step, FORMER_LIMIT, LONGEST_STRING, MOST_PACKETS, SHEET_MAX};
+use crate::rules::{
+    area_with, lay, long_packs, packs_of_five, read, room, system, walk_by, ReadBack, Step, FORMER_LIMIT, LONGEST_STRING, MOST_PACKETS,
+    SHEET_MAX,
+};
 
 fn packet(line: u16, flags: u16, user: &[u8]) -> Packet {
     let mut bytes = vec![0x45, 0x01, user.len() as u8];
@@ -117,7 +120,10 @@ fn order_of_20_on_a_sheet() {
     let over = sheet(2, &[of_lengths(&[0; MOST_PACKETS]), vec![packet(300, 0, &[])]].concat());
     assert_eq!((lay(&over, 2, &[0; 11_520]).number, element::write(&over, false, &[]).number), (5, 5));
     // 18: the first packet has no line; 17: there is no room.
-    assert_eq!((element::write(&lines(&[0, 300]), false, &[0; 99]).number, element::write(&lines(&[9, 300]), false, &[]).number), (20, 20));
+    assert_eq!(
+        (element::write(&lines(&[0, 300]), false, &[0; 99]).number, element::write(&lines(&[9, 300]), false, &[]).number),
+        (20, 20)
+    );
 }
 
 /// "reading and the walker after each packet's 16": packet by packet, so that what comes first in the string is named.
@@ -144,7 +150,7 @@ fn order_of_20_on_reading() {
     assert_eq!((of_faults([20, 0, 14], 2), of_faults([0, 14, 20], 2)), ((20, 0), (15, 1)));
     // 14 and 20 on one packet, in packs of 5: DC asks for more carriers.
     assert_eq!((of_faults([0, 34, 20], 1), of_faults([20, 34, 0], 1)), ((14, 1), (20, 0)));
-    // 17 comes behind: room for a sheet of 40 numbers less one.
+    // 17 comes behind: there is no room at all.
     let string = [danc_with_fault(0), danc_with_fault(20)].concat();
     let blocks = system(3).unwrap().blocks();
     let area = area_with(&[0; 9_600], &blocks, &long_packs(&string, &blocks).concat());

@@ -85,7 +85,9 @@ fn wrong_checksum(random: &mut Random, danc: &mut [u8], system: &System) -> &'st
     let bit = 1 << random.below(8);
     danc[end] = random.pick(&[cs.wrapping_add(1), cs.wrapping_sub(1), cs ^ bit, !cs, 0xFF, 0x00]);
     match random.below(10) {
-        0 | 1 => drop(wrong_line(random, danc, system)),
+        0 | 1 => {
+            wrong_line(random, danc, system);
+        }
         2 | 3 => put_line(danc, picture_line(random, system)),
         _ => {}
     }

@@ -50,14 +50,15 @@ fn starts(dancs: &[Vec<u8>]) -> Vec<usize> {
     starts
 }
 
-/// A packet's start, the end, inside a packet, past the end, or far beyond what a string has.
+/// A packet's start, often the last one's, the end, inside a packet, past the end, or far beyond what a string has.
 fn place(random: &mut Random, starts: &[usize], end: usize) -> u64 {
-    match random.weighted(&[60, 10, 7, 8, 6, 9]) {
+    match random.weighted(&[60, 10, 7, 8, 6, 20, 9]) {
         0 => starts[random.index(starts.len())] as u64,
         1 => 0,
         2 => end as u64,
         3 => random.below(end + 1) as u64,
         4 => (end + random.between(1, 300)) as u64,
+        5 => starts[starts.len().saturating_sub(2)] as u64,
         _ => {
             let start = starts[random.index(starts.len())] as u64;
             random.pick(&[u64::MAX, u64::MAX - 1, u64::MAX - 6, u64::MAX - 261, 1 << 63, (1 << 32) + start, 65_536 + start])
