@@ -3,39 +3,44 @@
 --
 -- In order: what is accepted; what is accepted only; the contract.
 -- Assumes nothing.
-use Prim.Native.Nat.{ℕ, _≤_}
+use Prim.Native.Nat.{ℕ, suc, _≤_}
 use mathlib.Core.Path.{_≡_, refl, sym, ap, _∙_, subst}
 use mathlib.Core.Bool.{Bool, true, false, cond}
-use mathlib.Core.List.{List}
+use mathlib.Core.List.{List, [], _∷_}
 use native.Mathlib.Omega.{arith}
 use lib.Dec.{leb}
 use lib.ListN.{length, length-map}
 use borrow.Author.Tests.{le-leb, leb-true}
 use Rattle.rules.specs.Base.{Bytes}
-use Rattle.rules.specs.Systems.{known}
+use Rattle.rules.specs.Systems.{known, system, allowed}
 use Rattle.rules.specs.Packet.{Packet}
-use Rattle.rules.specs.Sheet.{limit, allWords, sheetOf}
+use Rattle.rules.specs.Sheet.{limit, locations, allWords, sheetOf}
 use Rattle.rules.specs.Numbers.{Outcome, listed, refused, unless, andThen}
+use Rattle.rules.specs.Laying.{unlessAt, locationAllowed}
 use Rattle.rules.specs.Reading.{bufferOf}
 use Rattle.rules.proofs.Basics.{never, both}
+use Rattle.rules.proofs.Sheets.{locations-allowed, locations-fine, passed-on, at-from}
 use Rattle.sheet.specs.Write.{hasRoom}
 use Rattle.mxf.specs.Element.{Padded, packetsOf}
 use Rattle.mxf.specs.Judging.{judged}
-use Rattle.mxf.specs.Reading.{lastTests, reading, readOf, read, sheetAfter}
+use Rattle.mxf.specs.Reading.{lastTests, packetTests, reading, readOf, read, sheetAfter}
 use Rattle.mxf.specs.Demands.{Gives, Unread, Reads}
 use Rattle.mxf.specs.declared.ElementRead.{ElementRead}
 use Rattle.mxf.proofs.Inversion.{judged-number}
-use Rattle.mxf.proofs.Elements.{gives-judged, gives-one, judged-gives}
+use Rattle.mxf.proofs.Elements.{gives-sound, gives-judged, gives-one, judged-gives}
 
 -- ---- what is accepted
 
 module _ (sys : ℕ) (fi : Bool) (e : List ℕ) (room : ℕ) (kn : known sys ≡ true) where
-  reading-is : reading sys fi e room ≡ andThen (judged sys fi e) (lastTests sys room)
+  reading-is : reading sys fi e room ≡ andThen (judged sys fi e) (packetTests sys room)
   unfolding reading
   reading-is = rw kn
 
   given : (xs : List Padded) → Gives sys fi xs e → reading sys fi e room ≡ lastTests sys room (packetsOf xs)
-  given xs g = reading-is ∙ rw (gives-judged sys fi xs e g)
+  given xs g =
+      reading-is
+      ∙ ap (λ (o : Outcome). andThen o (packetTests sys room)) (gives-judged sys fi xs e g)
+      ∙ locations-allowed (system sys) 0 (packetsOf xs) _ (gives-sound sys fi xs (g .held))
 
   pub accepted : (xs : List Padded) → Gives sys fi xs e → length xs ≤ limit → hasRoom sys room (packetsOf xs) ≡ true
       → reading sys fi e room ≡ listed (packetsOf xs)
@@ -69,12 +74,12 @@ module _ (sys : ℕ) (fi : Bool) (e : List ℕ) (room : ℕ) (kn : known sys ≡
       → (xs : List Padded) × Gives sys fi xs e × (length xs ≤ limit) × (hasRoom sys room (packetsOf xs) ≡ true)
   accepted-only b ps z = go (judged sys fi e) refl (sym reading-is ∙ z)
     where
-      go : (o : Outcome) → judged sys fi e ≡ o → andThen o (lastTests sys room) ≡ listed ps
+      go : (o : Outcome) → judged sys fi e ≡ o → andThen o (packetTests sys room) ≡ listed ps
           → (xs : List Padded) × Gives sys fi xs e × (length xs ≤ limit) × (hasRoom sys room (packetsOf xs) ≡ true)
       go (refused n i) q z = never (cc)
       go (listed qs) q z =
-          let w = last-listed qs ps z in
-          let v = judged-gives sys fi e qs b q in
+          let w = last-listed qs ps (passed-on 20 (locationAllowed (system sys)) 0 (locations qs) _ ps z) in
+          let v = judged-gives sys fi e qs b q (locations-fine (system sys) 0 qs _ ps z) in
           let m = length-map (v .0) (λ (x : Padded). x .packet) in
           let l = ap length (v .1) in
           let few = w .1 in
@@ -89,8 +94,9 @@ module _ (sys : ℕ) (fi : Bool) (e : List ℕ) (room : ℕ) (kn : known sys ≡
       last qs true false z = let k : n ≡ 17 = cc in omega arith
       last qs false b z = let k : n ≡ 5 = cc in omega arith
 
-      go : (o : Outcome) → judged sys fi e ≡ o → andThen o (lastTests sys room) ≡ refused n i → 1 ≤ n
-      go (listed qs) q z = last qs (leb (length qs) limit) (hasRoom sys room qs) z
+      go : (o : Outcome) → judged sys fi e ≡ o → andThen o (packetTests sys room) ≡ refused n i → 1 ≤ n
+      go (listed qs) q z =
+          at-from 1 20 (locationAllowed (system sys)) 0 (locations qs) _ n i (last qs (leb (length qs) limit) (hasRoom sys room qs)) (omega arith) z
       go (refused m j) q z = let k = judged-number sys fi e n i (q ∙ z) in omega arith
 
 -- ---- the contract
@@ -137,7 +143,18 @@ read-within sys fi e sheet r after d = subst (λ (x : ElementRead). x .numbers �
     fitted ps true false q = omega arith
     fitted ps false b q = omega arith
 
-    within : (k : Bool) (o : Outcome) → readOf sys (unless 3 k (andThen o (lastTests sys (length sheet)))) .numbers ≤ length sheet
+    on-lines : (i : ℕ) (ls : List ℕ) (o : Outcome) → readOf sys o .numbers ≤ length sheet
+        → readOf sys (unlessAt 20 (locationAllowed (system sys)) i ls o) .numbers ≤ length sheet
+    on-lines i [] o h = h
+    on-lines i (l ∷ []) o h = h
+    on-lines i (l ∷ f ∷ ls) o h = go (allowed (system sys) l) (on-lines (suc i) ls o h)
+      where
+        go : (t : Bool) → readOf sys (unlessAt 20 (locationAllowed (system sys)) (suc i) ls o) .numbers ≤ length sheet
+            → readOf sys (cond t (unlessAt 20 (locationAllowed (system sys)) (suc i) ls o) (refused 20 i)) .numbers ≤ length sheet
+        go true ih = ih
+        go false ih = omega arith
+
+    within : (k : Bool) (o : Outcome) → readOf sys (unless 3 k (andThen o (packetTests sys (length sheet)))) .numbers ≤ length sheet
     within false o = omega arith
     within true (refused n i) = omega arith
-    within true (listed ps) = fitted ps (leb (length ps) limit) (hasRoom sys (length sheet) ps) refl
+    within true (listed ps) = on-lines 0 (locations ps) _ (fitted ps (leb (length ps) limit) (hasRoom sys (length sheet) ps) refl)

@@ -14,10 +14,11 @@ use lib.ListN.{length, getD, take, drop, length-append, length-drop, take-append
 use lib.Seq.{drop-at, take-at, take-append-seam, getD-append-seam, drop-cons, drop-drop, length-take-le}
 use borrow.Author.Tests.{eqb-true, eqb-false, eq-eqb, ne-eqb, le-leb}
 use Rattle.rules.specs.Base.{All, none, one, Bytes, joined}
-use Rattle.rules.specs.Systems.{system, stands}
-use Rattle.rules.specs.Packet.{Packet, body}
+use Rattle.rules.specs.Systems.{system, allowed}
+use Rattle.rules.specs.Packet.{Packet, body, Sound}
 use Rattle.rules.specs.Numbers.{Outcome, listed, also}
 use Rattle.rules.proofs.Basics.{never, either, take-bytes, drop-bytes}
+use Rattle.rules.proofs.Lines.{allowed-stands, OnAllowed}
 use Rattle.mxf.specs.Element.{Padded, packetsOf, progressive, two, three, key, wrapping, coding, samples, structure, value, element}
 use Rattle.mxf.specs.Served.{fiRead}
 use Rattle.mxf.specs.Judging.{twoIn, threeIn, fourIn, inFrame, isCoding, isCount, sizeIn, frontThen, arrayThen, packetIn}
@@ -119,7 +120,7 @@ module _ (sys : ℕ) (fi : Bool) (x : Padded) (r : List ℕ) (g : Held sys fi x)
   coding-back = refl
 
   in-frame : inFrame (system sys) (p .line) ≡ true
-  in-frame = rw (ne-eqb (p .line) 0 (g .lined), g .sound .line)
+  in-frame = rw (ne-eqb (p .line) 0 (g .lined), allowed-stands (system sys) (p .line) (g .sound .line))
 
   is-coding : (t : Bool) → isCoding (cond t 4 5) ≡ true
   is-coding true = refl
@@ -396,8 +397,8 @@ module _ (sys : ℕ) (fi : Bool) (s : List ℕ) (hs : Bytes s) (g : Structure sy
       let r = tail in
       cc
 
-  structure-held : Held sys fi x
-  structure-held =
+  structure-held : allowed (system sys) (q .line) ≡ true → Held sys fi x
+  structure-held a =
       record {
         sound =
             record {
@@ -405,7 +406,7 @@ module _ (sys : ℕ) (fi : Bool) (s : List ℕ) (hs : Bytes s) (g : Structure sy
               sdid = hs 15;
               many = subst (λ (n : ℕ). n < 256) (sym user-long) (hs 16);
               user = take-bytes dc t (drop-bytes 17 s hs);
-              line = g .stands;
+              line = a;
               flags = flags-in (eqb (getD s 3 0) 4);
             };
         lined = g .lined;
@@ -432,21 +433,31 @@ record StructuresOf (sys : ℕ) (fi : Bool) (n : ℕ) (s : List ℕ) (ps : List 
   whole : s ≡ joined (structure sys) items
 
 structures-written : (sys : ℕ) (fi : Bool) (n at : ℕ) (s : List ℕ) (ps : List Packet) → Bytes s → structures sys fi n at s ≡ listed ps
-    → StructuresOf sys fi n s ps
-structures-written sys fi zero at [] ps hs e = record { items = []; packets = cc; count = refl; held = none; whole = refl }
-structures-written sys fi zero at (b ∷ s) ps hs e = never (cc)
-structures-written sys fi (suc n) at s ps hs e =
+    → All (OnAllowed (system sys)) ps → StructuresOf sys fi n s ps
+structures-written sys fi zero at [] ps hs e fine = record { items = []; packets = cc; count = refl; held = none; whole = refl }
+structures-written sys fi zero at (b ∷ s) ps hs e fine = never (cc)
+structures-written sys fi (suc n) at s ps hs e fine =
     let m = structures-listed sys fi n at s ps e in
-    let later = structures-written sys fi n (at + sizeIn s) (drop (sizeIn s) s) (m .rest) (drop-bytes (sizeIn s) s hs) (m .later) in
+    let w = first-rest (packetIn sys fi s) (m .rest) (subst (All (OnAllowed (system sys))) (m .front) fine) in
+    let later = structures-written sys fi n (at + sizeIn s) (drop (sizeIn s) s) (m .rest) (drop-bytes (sizeIn s) s hs) (m .later) (w .1) in
     record {
       items = paddedIn sys fi s ∷ later .items;
       packets = ap (λ (qs : List Packet). packetIn sys fi s ∷ qs) (later .packets) ∙ sym (m .front);
       count = ap suc (later .count);
-      held = one (structure-held sys fi s hs (m .structure)) (later .held);
+      held = one (structure-held sys fi s hs (m .structure) (w .0)) (later .held);
       whole = structure-whole sys fi s hs (m .structure) ∙ ap (λ (r : List ℕ). structure sys (paddedIn sys fi s) ++ r) (later .whole);
     }
+  where
+    first-rest : (p : Packet) (qs : List Packet) → All (OnAllowed (system sys)) (p ∷ qs)
+        → (allowed (system sys) (p .line) ≡ true) × All (OnAllowed (system sys)) qs
+    first-rest p qs (one a rest) = (a, rest)
 
 -- ---- an element, both ways
+
+-- the packets of what is given are sound
+pub gives-sound : (sys : ℕ) (fi : Bool) (xs : List Padded) → All (Held sys fi) xs → All (Sound (system sys)) (packetsOf xs)
+gives-sound sys fi [] none = none
+gives-sound sys fi (x ∷ xs) (one g gs) = one (g .sound) (gives-sound sys fi xs gs)
 
 -- what is given is read
 pub gives-judged : (sys : ℕ) (fi : Bool) (xs : List Padded) (e : List ℕ) → Gives sys fi xs e → judged sys fi e ≡ listed (packetsOf xs)
@@ -516,9 +527,9 @@ head-written sys fi d ps hd h w =
     }
 
 -- what is read was given
-pub judged-gives : (sys : ℕ) (fi : Bool) (e : List ℕ) (ps : List Packet) → Bytes e → judged sys fi e ≡ listed ps
+pub judged-gives : (sys : ℕ) (fi : Bool) (e : List ℕ) (ps : List Packet) → Bytes e → judged sys fi e ≡ listed ps → All (OnAllowed (system sys)) ps
     → (xs : List Padded) × (packetsOf xs ≡ ps) × Gives sys fi xs e
-judged-gives sys fi e ps he z =
+judged-gives sys fi e ps he z fine =
     let h = judged-listed sys fi e ps z in
-    let w = structures-written sys fi (twoIn e 20) 22 (drop 22 e) ps (drop-bytes 22 e he) (h .later) in
+    let w = structures-written sys fi (twoIn e 20) 22 (drop 22 e) ps (drop-bytes 22 e he) (h .later) fine in
     (w .items, w .packets, head-written sys fi e ps he (h .head) w)

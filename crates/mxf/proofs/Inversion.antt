@@ -18,7 +18,7 @@ use lib.Dec.{eqb, ltb, leb}
 use lib.ListN.{length, getD, take, drop}
 use lib.Seq.{drop-cons}
 use borrow.Author.Tests.{ltb-false, leb-true, eqb-true, eqb-false, not-true}
-use Rattle.rules.specs.Systems.{system, stands}
+use Rattle.rules.specs.Systems.{system}
 use Rattle.rules.specs.Packet.{Packet}
 use Rattle.rules.specs.Numbers.{Outcome, listed, refused, also}
 use Rattle.rules.proofs.Basics.{never, both}
@@ -47,7 +47,6 @@ field-listed at s i size right o ps e = go (ltb (length s) (i + size)) right ref
 
 pub record Front (sys : ℕ) (s : List ℕ) (o : Outcome) (ps : List Packet) : Type 0 where
   pub lined : twoIn s 0 ≡ 0 → ⊥
-  pub stands : stands (system sys) (twoIn s 0) ≡ true
   pub wrapped : getD s 2 0 ≡ wrapping sys
   pub coded : isCoding (getD s 3 0) ≡ true
   pub later : o ≡ listed ps
@@ -61,7 +60,6 @@ front-listed sys at s o ps e =
     let l = both _ _ (a .holds) in
     record {
       lined = eqb-false (twoIn s 0) 0 (not-true (eqb (twoIn s 0) 0) (l .0));
-      stands = l .1;
       wrapped = eqb-true (getD s 2 0) (wrapping sys) (b .holds);
       coded = c .holds;
       later = c .later;
@@ -99,7 +97,6 @@ array-listed at s o ps e =
 
 pub record Structure (sys : ℕ) (s : List ℕ) : Type 0 where
   pub lined : twoIn s 0 ≡ 0 → ⊥
-  pub stands : stands (system sys) (twoIn s 0) ≡ true
   pub wrapped : getD s 2 0 ≡ wrapping sys
   pub coded : isCoding (getD s 3 0) ≡ true
   pub least : 3 ≤ twoIn s 4
@@ -123,7 +120,6 @@ structures-listed sys fi n at s ps e =
     go (structures sys fi n (at + sizeIn s) (drop (sizeIn s) s)) refl (b .later)
     (record {
       lined = a .lined;
-      stands = a .stands;
       wrapped = a .wrapped;
       coded = a .coded;
       least = b .least;

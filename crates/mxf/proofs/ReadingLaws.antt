@@ -1,35 +1,38 @@
 -- Reading an element that has been found right: its structures one after the other, and what is written of the sheet so far.
 --
--- In order: the structures that are left; the words of a packet; locations; the words
--- of packets; the sections; the answer.
+-- In order: the structures that are left; the words of a packet; locations; lines; the
+-- words of packets; the sections; the answer.
 -- Assumes nothing.
 use Prim.Native.Nat.{ℕ, suc, _+_, _-_, _*_, _≤_, _<_}
 use mathlib.Core.Path.{_≡_, refl, sym, ap, ap₂, _∙_, subst}
 use mathlib.Core.Bool.{Bool, true, false, cond}
 use mathlib.Core.Logic.{_⊎_, inl, inr}
 use mathlib.Core.List.{List, [], _∷_, _++_, map}
-use native.Mathlib.Nat.{add-zero}
+use native.Mathlib.Nat.{zero-add, add-zero}
 use native.Mathlib.Omega.{arith}
 use native.Mathlib.Numerals.{add-three}
 use lib.Dec.{eqb, leb}
 use lib.ListN.{length, getD, take, drop, set, length-append, length-drop, length-set}
 use lib.Seq.{length-take-le, getD-drop, drop-cons, drop-drop, take-all}
-use borrow.Author.Tests.{eq-eqb, le-leb, lt-leb}
+use borrow.Author.Tests.{eq-eqb, ne-eqb, le-leb, lt-leb}
 use Rattle.rules.specs.Base.{Bytes}
-use Rattle.rules.specs.Systems.{known}
+use Rattle.rules.specs.Systems.{System, known, system, allowed}
 use Rattle.rules.specs.Packet.{Packet, body, word, check, coded, checkOf, words}
 use Rattle.rules.specs.Sheet.{limit, locations, allWords, sheetOf}
 use Rattle.rules.specs.Numbers.{Outcome, listed, refused, unless, andThen}
+use Rattle.rules.specs.Laying.{locationAllowed}
 use Rattle.rules.specs.Reading.{bufferOf}
 use Rattle.rules.proofs.Basics.{second-false}
-use Rattle.rules.proofs.Sheets.{sheet-length}
+use Rattle.rules.proofs.Sheets.{locations-length, sheet-length}
 use Rattle.rules.proofs.Words.{packet-words, words-room}
+use Rattle.sheet.specs.Standing.{inFront}
 use Rattle.sheet.specs.Write.{hasRoom, listIn, framed, wordsAfter}
+use Rattle.sheet.proofs.Laws.{count-at}
 use Rattle.sheet.proofs.Filling.{two-more, part-long, part-more, all-written, threeOf, backOf}
 use Rattle.sheet.proofs.Filling.{sheet-before, sheet-lent, sheet-long, sheet-filled}
 use Rattle.mxf.specs.Served.{fiRead}
 use Rattle.mxf.specs.Judging.{twoIn, fourIn, sizeIn, packetIn, structures, judged}
-use Rattle.mxf.specs.Reading.{lastTests, reading, readOf, read, sheetAfter}
+use Rattle.mxf.specs.Reading.{lastTests, packetTests, reading, readOf, read, sheetAfter}
 use Rattle.mxf.specs.Demands.{Reads}
 use Rattle.mxf.specs.Parts.{packetsOfStructures, Judged, Sized, Answers}
 use Rattle.mxf.specs.declared.ElementRead.{ElementRead}
@@ -166,6 +169,55 @@ module _ (sys : ℕ) (fi : Bool) (n : ℕ) (s out : List ℕ) where
             ∙ ap (λ (r : List ℕ). take (2 * k) out ++ r) (sym m)
             ∙ was .written;
       }
+
+-- ---- lines
+
+-- of a system, how many packets in front of the first whose line is not allowed
+abbrev allowedOf : System → List Packet → ℕ
+allowedOf y ps = inFront (locationAllowed y) (locations ps)
+
+-- the lines of the packets before `at` are allowed
+pub record Allowing (sys : ℕ) (fi : Bool) (n : ℕ) (s : List ℕ) (last k at : ℕ) : Type 0 where
+  pub left : Left sys fi n s k at
+  pub few : k ≤ n
+  pub allowed : (y : System) → y .last ≡ last → k + allowedOf y (restOf sys fi n s k at) ≡ allowedOf y (packetsOfStructures sys fi n s)
+
+module _ (sys : ℕ) (fi : Bool) (n : ℕ) (s : List ℕ) (last : ℕ) where
+  pub allowing-none : Judged sys fi n s → Allowing sys fi n s last 0 0
+  allowing-none j =
+      record { left = left-all sys fi n s j; few = omega arith; allowed = λ y e. zero-add _ ∙ ap (allowedOf y) (rest-all sys fi n s) }
+
+  pub allowing-all : (k at : ℕ) → Allowing sys fi n s last k at → n ≤ k → (y : System) → y .last ≡ last
+      → k ≡ allowedOf y (packetsOfStructures sys fi n s)
+  allowing-all k at was h y e =
+      let z : allowedOf y (restOf sys fi n s k at) ≡ 0 = ap (allowedOf y) (left-none sys fi n s k at (was .left) h) in
+      sym (add-zero k) ∙ ap (λ (m : ℕ). k + m) (sym z) ∙ was .allowed y e
+
+  -- a turn: the line
+  module _ (k at line : ℕ) (was : Allowing sys fi n s last k at) (h : k < n) (q : line ≡ twoIn s at) where
+    abbrev behind : List Packet
+    behind = restOf sys fi n s (k + 1) (at + 14 + fourIn s (at + 6))
+
+    front : (y : System) → allowedOf y (restOf sys fi n s k at) ≡ cond (allowed y line) (suc (allowedOf y behind)) 0
+    front y =
+        let a : packetIn sys fi (drop at s) .line ≡ line = two-drop at 0 s ∙ ap (twoIn s) (add-zero at) ∙ sym q in
+        ap (allowedOf y) (turn sys fi n s k at (was .left) h .front) ∙ ap (λ (m : ℕ). cond (allowed y m) (suc (allowedOf y behind)) 0) a
+
+    pub allowing-stop : (y : System) → y .last ≡ last → allowed y line ≡ false → k ≡ allowedOf y (packetsOfStructures sys fi n s)
+    allowing-stop y e f = let z : allowedOf y (restOf sys fi n s k at) ≡ 0 = front y ∙ rw f in let w = was .allowed y e in omega arith
+
+    pub allowing-more : ((y : System) → y .last ≡ last → allowed y line ≡ true) → (count : ℕ) → count ≡ fourIn s (at + 6)
+        → Allowing sys fi n s last (k + 1) (at + (14 + count))
+    allowing-more f count g =
+        let next : at + (14 + count) ≡ at + 14 + fourIn s (at + 6) = omega arith in
+        record {
+          left = subst (Left sys fi n s (k + 1)) (sym next) (turn sys fi n s k at (was .left) h .later);
+          few = omega arith;
+          allowed = λ y e.
+              let z : allowedOf y (restOf sys fi n s k at) ≡ suc (allowedOf y behind) = front y ∙ rw (f y e) in
+              let w = was .allowed y e in
+              ap (λ (i : ℕ). k + 1 + allowedOf y (restOf sys fi n s (k + 1) i)) next ∙ (omega arith);
+        }
 
 -- ---- the words of packets
 
@@ -350,10 +402,10 @@ module _ (sys : ℕ) (fi : Bool) (packets : ℕ) (s out : List ℕ) (m : Sized s
 
 module _ (sys : ℕ) (fi : Bool) (e sheet : List ℕ) (j : ElementRead) (h : j ≡ readOf sys (judged sys fi e)) where
   -- 19 is given back as it is
-  pub refused-before : (j .number ≡ 0 → ⊥) → Answers sys sheet (andThen (judged sys fi e) (lastTests sys (length sheet))) j sheet
+  pub refused-before : (j .number ≡ 0 → ⊥) → Answers sys sheet (andThen (judged sys fi e) (packetTests sys (length sheet))) j sheet
   refused-before n = go (judged sys fi e) h
     where
-      go : (o : Outcome) → j ≡ readOf sys o → Answers sys sheet (andThen o (lastTests sys (length sheet))) j sheet
+      go : (o : Outcome) → j ≡ readOf sys o → Answers sys sheet (andThen o (packetTests sys (length sheet))) j sheet
       go (listed qs) q = absurd (n (ap (λ (r : ElementRead). r .number) q))
       go (refused m i) q = record { answer = q; buffer = refl }
 
@@ -388,6 +440,51 @@ module _ (sys : ℕ) (fi : Bool) (e sheet : List ℕ) (j : ElementRead) (h : j �
 
     numbers-sheet : length (sheetOf sys found) ≡ j .numbers
     numbers-sheet = sym (ap (λ (r : ElementRead). r .numbers) answer-is)
+
+    -- the structures, lent
+    abbrev structs : List ℕ
+    structs = take (length e - 22) (drop 22 e)
+
+    structs-judged : structures sys fi (j .packets) 22 structs ≡ listed found
+    structs-judged =
+        let d = judged-listed sys fi e found found-is .later in
+        let c : j .packets ≡ twoIn e 20 = packets-are ∙ structures-count sys fi (twoIn e 20) 22 (drop 22 e) found d in
+        let l = length-drop 22 e in
+        ap (structures sys fi (j .packets) 22) (take-all (length e - 22) (drop 22 e) (omega arith))
+        ∙ ap (λ (m : ℕ). structures sys fi m 22 (drop 22 e)) c
+        ∙ d
+
+    pub structs-are : Judged sys fi (j .packets) structs
+    structs-are = structs-judged ∙ ap listed (sym (ap listIn structs-judged))
+
+    -- how many packets in front of the first whose line is not allowed, by the structures that are lent
+    module _ (k : ℕ) (a : k ≡ allowedOf (system sys) (packetsOfStructures sys fi (j .packets) structs)) where
+      in-front : k ≡ allowedOf (system sys) found
+      in-front = a ∙ ap (λ (o : Outcome). allowedOf (system sys) (listIn o)) structs-judged
+
+      lines-are : packetTests sys (length sheet) found ≡ cond (eqb k (j .packets)) (lastTests sys (length sheet) found) (refused 20 k)
+      lines-are =
+          count-at 20 (locationAllowed (system sys)) 0 (j .packets) (locations found) _
+          (locations-length found ∙ ap (λ (m : ℕ). 2 * m) (sym packets-are))
+          ∙ rw (zero-add (allowedOf (system sys) found), ← in-front)
+
+      -- 20
+      pub not-allowed : (k ≡ j .packets → ⊥) → (r : ElementRead) → r ≡ readOf 0 (refused 20 k)
+          → Answers sys sheet (andThen (judged sys fi e) (packetTests sys (length sheet))) r sheet
+      not-allowed n r q =
+          let p : refused 20 k ≡ andThen (judged sys fi e) (packetTests sys (length sheet)) =
+          sym (ap (λ (o : Outcome). andThen o (packetTests sys (length sheet))) found-is ∙ lines-are ∙ rw (ne-eqb k (j .packets) n)) in
+          record { answer = q ∙ ap (readOf sys) p; buffer = ap (bufferOf sys sheet) p }
+
+      -- every line is allowed
+      pub all-allowed : k ≡ j .packets → (r : ElementRead) (after : List ℕ)
+          → Answers sys sheet (andThen (judged sys fi e) (lastTests sys (length sheet))) r after
+          → Answers sys sheet (andThen (judged sys fi e) (packetTests sys (length sheet))) r after
+      all-allowed n r after w =
+          let p : andThen (judged sys fi e) (lastTests sys (length sheet)) ≡ andThen (judged sys fi e) (packetTests sys (length sheet)) =
+          ap (λ (o : Outcome). andThen o (lastTests sys (length sheet))) found-is
+          ∙ sym (ap (λ (o : Outcome). andThen o (packetTests sys (length sheet))) found-is ∙ lines-are ∙ rw (eq-eqb k (j .packets) n)) in
+          subst (λ (o : Outcome). Answers sys sheet o r after) p w
 
     tests-are : andThen (judged sys fi e) (lastTests sys (length sheet)) ≡ lastTests sys (length sheet) found
     tests-are = ap (λ (o : Outcome). andThen o (lastTests sys (length sheet))) found-is
@@ -424,19 +521,6 @@ module _ (sys : ℕ) (fi : Bool) (e sheet : List ℕ) (j : ElementRead) (h : j �
               second-false (leb (length (allWords found)) 65535) _ (lt-leb (length (sheetOf sys found)) (length sheet) (omega arith))
 
       module _ (short : j .numbers - 4 - 2 * j .packets ≤ 65535) (long : j .numbers ≤ length sheet) where
-        -- the structures, lent
-        abbrev structs : List ℕ
-        structs = take (length e - 22) (drop 22 e)
-
-        structs-judged : structures sys fi (j .packets) 22 structs ≡ listed found
-        structs-judged =
-            let d = judged-listed sys fi e found found-is .later in
-            let c : j .packets ≡ twoIn e 20 = packets-are ∙ structures-count sys fi (twoIn e 20) 22 (drop 22 e) found d in
-            let l = length-drop 22 e in
-            ap (structures sys fi (j .packets) 22) (take-all (length e - 22) (drop 22 e) (omega arith))
-            ∙ ap (λ (m : ℕ). structures sys fi m 22 (drop 22 e)) c
-            ∙ d
-
         pub sized : (out : List ℕ) → sys ≤ 3 → length out ≡ j .numbers → Sized sys fi (j .packets) structs out
         sized out k l =
             let a = packets-are in
@@ -445,7 +529,7 @@ module _ (sys : ℕ) (fi : Bool) (e sheet : List ℕ) (j : ElementRead) (h : j �
             let n : length (allWords found) < 65536 = omega arith in
             record {
               known = k;
-              judged = structs-judged ∙ ap listed (sym g);
+              judged = structs-are;
               few = few;
               short = subst (λ (r : List Packet). length (allWords r) < 65536) (sym g) n;
               room = l ∙ sym (ap (λ (r : List Packet). length (sheetOf sys r)) g ∙ numbers-sheet);
@@ -476,7 +560,7 @@ module _ (sys : ℕ) (fi : Bool) (e sheet : List ℕ) (r : ElementRead) (after :
   unfolding reading
   unknown-system k q b = rw k (record { answer = q; buffer = b })
 
-  pub known-system : known sys ≡ true → Answers sys sheet (andThen (judged sys fi e) (lastTests sys (length sheet))) r after
+  pub known-system : known sys ≡ true → Answers sys sheet (andThen (judged sys fi e) (packetTests sys (length sheet))) r after
       → Answers sys sheet (reading sys fi e (length sheet)) r after
   unfolding reading
   known-system k a = rw k a

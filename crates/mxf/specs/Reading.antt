@@ -22,12 +22,13 @@ use Rattle.mxf.specs.declared.ElementRead.{ElementRead}
 abbrev pub lastTests : ℕ → ℕ → List Packet → Outcome
 lastTests sys room ps = cond (leb (length ps) limit) (unless 17 (hasRoom sys room ps) (listed ps)) (refused 5 limit)
 
--- "Packet k belongs to location k": 20 names both. `room` is how many numbers the sheet buffer holds
+-- 20, "a line in the frame that isn't allowed", then these. "Packet k belongs to location k": the place counts both
+abbrev pub packetTests : ℕ → ℕ → List Packet → Outcome
+packetTests sys room ps = unlessAt 20 (locationAllowed (system sys)) 0 (locations ps) (lastTests sys room ps)
+
+-- `room` is how many numbers the sheet buffer holds
 unfoldable pub reading : ℕ → Bool → List ℕ → ℕ → Outcome
-reading sys fi e room =
-    unless 3 (known sys)
-    (andThen (judged sys fi e)
-    (λ (ps : List Packet). unlessAt 20 (locationAllowed (system sys)) 0 (locations ps) (lastTests sys room ps)))
+reading sys fi e room = unless 3 (known sys) (andThen (judged sys fi e) (packetTests sys room))
 
 -- number, place, packets, sheet numbers; on refusal the later figures are 0
 abbrev pub readOf : ℕ → Outcome → ElementRead

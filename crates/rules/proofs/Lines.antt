@@ -6,6 +6,7 @@ use mathlib.Core.Bool.{Bool, true, false, _&&_, _||_}
 use lib.Dec.{eqb, leb·zero}
 use borrow.Author.Tests.{eqb-true, leb-true}
 use Rattle.rules.specs.Systems.{System, stands, vancLine, allowed}
+use Rattle.rules.specs.Packet.{Packet}
 use Rattle.rules.proofs.Basics.{both}
 
 -- "no line stay[s]"
@@ -24,3 +25,7 @@ allowed-stands y line e = go (eqb line 0) refl e
 pub allowed-last : (y : System) (line : ℕ) → allowed y line ≡ true → line ≤ y .last
 unfolding stands
 allowed-last y line e = leb-true line (y .last) (allowed-stands y line e)
+
+-- a packet's line is allowed
+abbrev pub OnAllowed : System → Packet → Type 0
+OnAllowed y p = allowed y (p .line) ≡ true

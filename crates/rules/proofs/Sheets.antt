@@ -22,7 +22,7 @@ use Rattle.rules.specs.Numbers.{Outcome, listed, refused, unless, andThe
 use Rattle.rules.specs.Laying.{packetsOfWords, shaped, unlessAt, locationStands, locationAllowed, located, listTests, sheetTests}
 use Rattle.rules.specs.Demands.{SheetOf}
 use Rattle.rules.proofs.Basics.{never, both, append-below}
-use Rattle.rules.proofs.Lines.{allowed-stands, allowed-last}
+use Rattle.rules.proofs.Lines.{allowed-stands, allowed-last, OnAllowed}
 use Rattle.rules.proofs.Words.{bare, bares, words-read, WordsOf, words-laid, words-room, words-refused}
 
 -- the number of an outcome, 0 for a list
@@ -147,6 +147,19 @@ passed-on n test i (l ∷ f ∷ ls) o ps e = go (test l f) (passed-on n test (su
         → cond t (unlessAt n test (suc i) ls o) (refused n i) ≡ listed ps → o ≡ listed ps
     go true ih e = ih e
     go false ih e = never (cc)
+
+-- where 20 has passed, every packet's line is allowed
+pub locations-fine : (y : System) (i : ℕ) (ps : List Packet) (o : Outcome) (qs : List Packet)
+    → unlessAt 20 (locationAllowed y) i (locations ps) o ≡ listed qs → All (OnAllowed y) ps
+locations-fine y i [] o qs e = none
+locations-fine y i (p ∷ ps) o qs e = go (allowed y (p .line)) refl (locations-fine y (suc i) ps o qs) e
+  where
+    go : (t : Bool) → allowed y (p .line) ≡ t
+        → (unlessAt 20 (locationAllowed y) (suc i) (locations ps) o ≡ listed qs → All (OnAllowed y) ps)
+        → cond t (unlessAt 20 (locationAllowed y) (suc i) (locations ps) o) (refused 20 i) ≡ listed qs
+        → All (OnAllowed y) (p ∷ ps)
+    go true a ih e = one a (ih e)
+    go false a ih e = never (cc)
 
 -- locations that stand and are allowed, each with its packet, are those packets' locations, and leave their words as they were
 module _ (y : System) where
@@ -368,7 +381,7 @@ pub unless-from : (b m : ℕ) (t : Bool) (o : Outcome) (n k : ℕ) → (o ≡ re
 unless-from b m true o n k h l e = h e
 unless-from b m false o n k h l e = let z : m ≡ n = cc in omega arith
 
-at-from : (b m : ℕ) (test : ℕ → ℕ → Bool) (i : ℕ) (ls : List ℕ) (o : Outcome) (n k : ℕ) → (o ≡ refused n k → b ≤ n) → b ≤ m
+pub at-from : (b m : ℕ) (test : ℕ → ℕ → Bool) (i : ℕ) (ls : List ℕ) (o : Outcome) (n k : ℕ) → (o ≡ refused n k → b ≤ n) → b ≤ m
     → unlessAt m test i ls o ≡ refused n k → b ≤ n
 at-from b m test i [] o n k h l e = h e
 at-from b m test i (x ∷ []) o n k h l e = h e

@@ -63,7 +63,7 @@ shaped-long s e =
 -- ---- locations
 
 -- a test of P pairs by how many of them are in front
-count-at : (n : ℕ) (test : ℕ → ℕ → Bool) (i p : ℕ) (ls : List ℕ) (o : Outcome) → length ls ≡ 2 * p
+pub count-at : (n : ℕ) (test : ℕ → ℕ → Bool) (i p : ℕ) (ls : List ℕ) (o : Outcome) → length ls ≡ 2 * p
     → unlessAt n test i ls o ≡ cond (eqb (inFront test ls) p) o (refused n (i + inFront test ls))
 count-at n test i zero [] o h = refl
 count-at n test i (suc p) [] o h = absurd (omega arith)

@@ -1,14 +1,18 @@
--- `reading::read` meets its contract, a law for each return: 3; 19; what the rest of the tests give. Assumes nothing.
-use mathlib.Core.Path.{_≡_, refl}
+-- `reading::read` meets its contract, a law for each return: 3; 19; 20; what the rest of the tests give. Assumes nothing.
+use Prim.Native.Nat.{_≤_}
+use mathlib.Core.Path.{_≡_, refl, sym}
 use mathlib.Core.Bool.{true}
+use native.Mathlib.Omega.{arith}
+use lib.ListN.{length}
 use borrow.Author.Needs.{needs}
 use Rattle.rules.specs.Base.{Bytes}
-use Rattle.rules.specs.Systems.{known}
+use Rattle.rules.specs.Systems.{known, system}
 use Rattle.mxf.specs.Judging.{judged}
 use Rattle.mxf.specs.Reading.{readOf}
 use Rattle.rules.proofs.Blocks.{known-low}
 use Rattle.frame.proofs.Laws.{last-is, is-unknown, is-known}
 use Rattle.mxf.proofs.ReadingLaws.{answered, unknown-system, known-system, refused-before}
+use Rattle.mxf.proofs.ReadingLaws.{head-there, structs-are, not-allowed, all-allowed}
 use Rattle.mxf.proofs.reading.read.Statement.{statement}
 use Rattle.mxf.proofs.reading.read.Tie as tie
 
@@ -58,25 +62,70 @@ returns-2 c =
     (known-system (a .system) (a .fi) (a .element .now) (a .sheet .now) (d .judge .result) (a .sheet .now) (is-one (d .before))
     (refused-before (a .system) (a .fi) (a .element .now) (a .sheet .now) (d .judge .result) (judged-is d) (c .if2 .taken)))
 
-written-requires : tie.Need-written-requires
-written-requires c κs =
+-- past 19 the head is there
+there : (c : tie.Else2) → 22 ≤ length (c .before .before .before .before .before .before .before .before .args .element .now)
+there c =
+    let d = c .before .before in
+    let a = d .before .before .before .before .before .before .args in
+    head-there (a .system) (a .fi) (a .element .now) (a .sheet .now) (d .judge .result) (judged-is d) (c .if2 .left)
+
+sub-allowed : tie.Need-sub-allowed
+sub-allowed c = let h = there c in omega arith
+
+part-allowed-start : tie.Need-part-allowed-start
+part-allowed-start c = let h = there c in omega arith
+
+part-allowed-end : tie.Need-part-allowed-end
+part-allowed-end c = search needs
+
+allowed-requires : tie.Need-allowed-requires
+allowed-requires c κs =
     let d = c .before .before .before in
     let a = d .before .before .before .before .before .before .args in
-    (known-low (a .system) (is-one (d .before)), judged-is d, c .before .if2 .left)
+    structs-are (a .system) (a .fi) (a .element .now) (a .sheet .now) (d .judge .result) (judged-is d) (c .before .if2 .left)
+
+refusal-requires-2 : tie.Need-refusal-requires-2
+refusal-requires-2 c κs = search needs
+
+-- 20
+returns-3 : tie.Need-returns-3
+returns-3 c =
+    let w = c .before .before in
+    let z = w .before .before in
+    let d = z .before .before in
+    let f = d .before .before .before in
+    let a = f .before .before .before .args in
+    let is = sym (last-is (a .system) (f .figures-of .result) (f .figures-of .ensures)) in
+    answered (a .system) (a .fi) (a .element .now) (a .sheet .now) (c .refusal2 .result) (a .sheet .now) (bytes f)
+    (known-system (a .system) (a .fi) (a .element .now) (a .sheet .now) (c .refusal2 .result) (a .sheet .now) (is-one (d .before))
+    (not-allowed (a .system) (a .fi) (a .element .now) (a .sheet .now) (d .judge .result) (judged-is d) (z .if2 .left) (w .allowed .result)
+    (w .allowed .ensures (system (a .system)) is) (c .before .if3 .taken) (c .refusal2 .result) (c .refusal2 .ensures)))
+
+written-requires : tie.Need-written-requires
+written-requires c κs =
+    let z = c .before .before .before .before in
+    let d = z .before .before in
+    let a = d .before .before .before .before .before .before .args in
+    (known-low (a .system) (is-one (d .before)), judged-is d, z .if2 .left)
 
 same-length : tie.Need-same-length
 same-length c = search needs
 
 -- the rest
-returns-3 : tie.Need-returns-3
-returns-3 c =
-    let w = c .before .before in
-    let d = w .before .before .before .before in
-    let a = d .before .before .before .before .before .before .args in
-    answered (a .system) (a .fi) (a .element .now) (a .sheet .now) (w .written .result) (w .written .last .1 .1 .1 .1 .0)
-    (bytes (d .before .before .before))
-    (known-system (a .system) (a .fi) (a .element .now) (a .sheet .now) (w .written .result) (w .written .last .1 .1 .1 .1 .0) (is-one (d .before))
-    (w .written .ensures))
+returns-4 : tie.Need-returns-4
+returns-4 c =
+    let v = c .before .before in
+    let w = v .before .before .before in
+    let z = w .before .before in
+    let d = z .before .before in
+    let f = d .before .before .before in
+    let a = f .before .before .before .args in
+    let is = sym (last-is (a .system) (f .figures-of .result) (f .figures-of .ensures)) in
+    let after = v .written .last .1 .1 .1 .1 .0 in
+    answered (a .system) (a .fi) (a .element .now) (a .sheet .now) (v .written .result) after (bytes f)
+    (known-system (a .system) (a .fi) (a .element .now) (a .sheet .now) (v .written .result) after (is-one (d .before))
+    (all-allowed (a .system) (a .fi) (a .element .now) (a .sheet .now) (d .judge .result) (judged-is d) (z .if2 .left) (w .allowed .result)
+    (w .allowed .ensures (system (a .system)) is) (v .before .before .if3 .left) (v .written .result) after (v .written .ensures)))
 
 pub read-spec : {M : Type 1} → statement M
 read-spec =
@@ -87,6 +136,12 @@ read-spec =
     returns
     judge-requires
     returns-2
+    sub-allowed
+    part-allowed-start
+    part-allowed-end
+    allowed-requires
+    refusal-requires-2
+    returns-3
     written-requires
     same-length
-    returns-3)
+    returns-4)
