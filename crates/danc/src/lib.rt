@@ -63,10 +63,7 @@ fn line_fault(last: Line, h0: u8, h1: u8) -> u64
         return 0;
     }
     let line = line_of(h0, h1);
-    if line.0 == 0 {
-        return 16;
-    }
-    if last.0 < line.0 {
+    if line.0 == 0 || last.0 < line.0 {
         return 16;
     }
     if may_stand(last, line) {

@@ -1,5 +1,5 @@
-// Reading an element to a sheet (document 02, A1: "on reading 3, 19 .., 5, 17"; A3: 20 "after 19"). The whole element is judged before a number of the sheet
-// is written.
+// Reading an element to a sheet (document 02, A1: "on reading 3, 19 .., 5, 17"; A3: 20 "after 19"). The whole element is judged before a
+// number of the sheet is written.
 use crate::ElementRead;
 use crate::judging::four;
 use crate::judging::judge;

@@ -1,8 +1,8 @@
 -- Demands 1 and 3: what reading gives back and the sheet buffer afterwards meet the contract `Reads`. And the end of it all: what is
 -- laid and then read is the sheet that was laid.
 --
--- In order: what is accepted; what is accepted only; the contract (`reads`); there and back (`there-and-back`); fill (`no-packet-cut`,
--- `second-act`).
+-- In order: what is accepted; what is accepted only; the contract (`reads`); there and back (`there-and-back`); picture lines
+-- (`laid-on-lines`, `read-on-lines`); fill (`no-packet-cut`, `second-act`).
 -- Assumes nothing.
 use Prim.Native.Nat.{ℕ, _≤_, _<_, _%_}
 use mathlib.Core.Path.{_≡_, refl, sym, ap, _∙_, subst}
@@ -21,11 +21,12 @@ use Rattle.rules.specs.Blocks.{runs, blockSizes, areaSize, userBytesIn}
 use Rattle.rules.specs.Packing2.{fill}
 use Rattle.rules.specs.Numbers.{Outcome, listed, refused, unless, andThen, packetsIn}
 use Rattle.rules.specs.Reading.{stringRow, packetsOfUserBytes, packingFound, reading, readBackOf, bufferOf, read, bufferAfter}
-use Rattle.rules.specs.Demands.{Lays, Gives, Comes, named, Unread, Reads}
+use Rattle.rules.specs.Demands.{SheetOf, Lays, Gives, Comes, named, Unread, Reads}
 use Rattle.rules.specs.declared.Laid.{Laid}
 use Rattle.rules.specs.declared.ReadBack.{ReadBack}
 use Rattle.rules.proofs.Basics.{never, joined-append}
 use Rattle.rules.proofs.Blocks.{gather-length, gather-bytes, Facts, facts-of}
+use Rattle.rules.proofs.Lines.{OnAllowed, sound-lines, good-lines}
 use Rattle.rules.proofs.Strings.{string-read}
 use Rattle.rules.proofs.Users.{fill-ends, users-read, users-laid, users-unique, users-refused, written-gives}
 use Rattle.rules.proofs.Sheets.{system-back, unless-from}
@@ -200,6 +201,28 @@ there-and-back k s area r after v n sheet b out w h =
       ap (λ (x : ReadBack). x .number) (e .0),
       ap (λ (x : ReadBack). x .numbers) (e .0) ∙ ap length (sym (a .sheet .whole)),
       e .1 ∙ ap (λ (t : List ℕ). t ++ drop (length t) sheet) (sym (a .sheet .whole)),
+    )
+
+-- ---- picture lines (document 02, A3)
+
+-- what is laid has no packet on a picture line, nor where signals are switched
+pub laid-on-lines : (k : ℕ) (s area : List ℕ) (r : Laid) (after : List ℕ) → Lays k s area r after → r .number ≡ 0
+    → (sys : ℕ) × (ps : List Packet) × SheetOf sys ps s × All (OnAllowed (system sys)) ps
+laid-on-lines k s area r after v n =
+    let o = v .demand2 .only n in
+    (o .0, o .1, o .2 .sheet, sound-lines (system (o .0)) (o .1) (o .2 .sheet .sound))
+
+-- nor has what is read
+pub read-on-lines : (sys : ℕ) (area sheet : List ℕ) (r : ReadBack) (after : List ℕ) → known sys ≡ true → length area ≡ areaSize (system sys)
+    → Reads sys area sheet r after → r .number ≡ 0
+    → (ps : List Packet) × (after ≡ bufferOf sys sheet (listed ps)) × All (OnAllowed (system sys)) ps
+read-on-lines sys area sheet r after kn l v n =
+    let d = v .demand3 kn l in
+    let o = d .only n in
+    let g = o .2 in (
+      o .1,
+      d .accepts (o .0) (o .1) g (o .3) .1,
+      subst (All (OnAllowed (system sys))) (g .packets) (good-lines (system sys) (g .items) (g .good)),
     )
 
 -- ---- fill

@@ -69,8 +69,12 @@ loop-again : tie.Need-loop-again Inv-loop μ-loop
 loop-again c =
     let ls : List ℕ = c .before .before .before .before .before .before .before .before .args .ls .now in
     let l = c .before .before .before .before .before .before .loop in
-    let f = c .before .before .before .if1 .left in
-    (search needs, λ y e. place-more y _ e (l .k) ls (omega arith) (omega (arith, ltb-false)) (sym (c .before .may-stand .ensures y e) ∙ not-false _ (c .if2 .left)) ∙ l .inv .1 y e)
+    let f = c .before .before .before .if1 .left in (
+      search needs,
+      λ y e.
+          let allowed = sym (c .before .may-stand .ensures y e) ∙ not-false _ (c .if2 .left) in
+          place-more y _ e (l .k) ls (omega arith) (omega (arith, ltb-false)) allowed ∙ l .inv .1 y e,
+    )
 
 returns-2 : tie.Need-returns-2 Inv-loop μ-loop
 returns-2 c = λ y e. front-end (inPlace y) _ (c .before .before .before .args .ls .now) (omega arith) ∙ c .before .loop .inv .1 y e
