@@ -116,7 +116,7 @@ enum {
 };
 
 /* What a number says, in words: "done" for 0, "no number of a refusal" for one that no call gives. The command `vanc` says the same words; for 20
- * of a sheet it says the line too. */
+ * it names the line. */
 static inline const char *vanc_refusal_text(uint64_t number)
 {
     switch (number) {

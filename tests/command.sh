@@ -1044,7 +1044,7 @@ for output in new.file frame.area nowhere/new.file; do
   refused 3 0 SYSTEM mxf-read 4 0 film.sheet $output
   refused 3 0 SYSTEM read 4 film.sheet $output
 done
-for words in "13 0" "14 1" "15 1" "16 1" "20 1"; do
+for words in "13 0" "14 1" "15 1" "16 1"; do
   for packing in 1 2; do
     area=${words% *}_$packing.area
     where=
@@ -1061,11 +1061,13 @@ for words in 5_{0,1,2}": $most" {14,15,16,20}_late": $last"; do
   area=${words%: *}.area number=${words%_*} place=${words#*: }
   where=": packet $place"
   [ $number != 5 ] || where=
+  [ $number != 20 ] || instead="line 7 is kept free for switching"
   cp "$made/$area" .
   keep
   for output in new.file frame.area nowhere/new.file; do
     refused $number $place "$area$where" read 2 $area $output
   done
+  instead=
 done
 for byte in 0 1 15 16; do
   cp film.anc bad.anc
@@ -1075,9 +1077,23 @@ for byte in 0 1 15 16; do
     refused 19 $byte "bad.anc: byte $byte" mxf-read 3 0 bad.anc $output
   done
 done
+# 20 of a packet that is read has words of its own too. The line is found at every place of packs and blocks, and behind padding.
+for path in "$made"/{picture,switching}_*.{area,anc}; do
+  file=${path##*/}
+  IFS=_ read -r kind line place y _ <<<"${file%.*}"
+  instead="line $line is a picture line"
+  [ $kind = picture ] || instead="line $line is kept free for switching"
+  read=(read $y)
+  [[ $file != *.anc ]] || read=(mxf-read $y 0)
+  cp "$path" .
+  keep
+  refused 20 $place "$file: packet $place" "${read[@]}" $file new.file
+  rm $file
+done
 # Lines 7 and 26 in place of 9 and 13: packet 0's at byte 22, packet 1's at 41. 19 comes before 20, wherever it is.
-for words in '0 23 \007' '1 42 \032'; do
-  read -r packet byte line <<<"$words"
+for words in '0 23 \007 7 is kept free for switching' '1 42 \032 26 is a picture line'; do
+  read -r packet byte line instead <<<"$words"
+  instead="line $instead"
   cp film.anc bad.anc
   poke bad.anc $byte "$line"
   keep
@@ -1086,6 +1102,7 @@ for words in '0 23 \007' '1 42 \032'; do
       refused 20 $packet "bad.anc: packet $packet" mxf-read 3 $fi bad.anc $output
     done
   done
+  instead=
   refused 3 0 SYSTEM mxf-read 4 0 bad.anc new.file
   poke bad.anc $((41 - 19 * packet)) '\377'
   keep
@@ -1096,7 +1113,7 @@ for y in 1 2 3; do
   cp "$made/limit_$y.anc" bad.anc
   poke bad.anc $((22 + 17 * most)) '\001\054'
   keep
-  refused 20 $most "bad.anc: packet $most" mxf-read $y 0 bad.anc new.file
+  instead="line 300 is a picture line" refused 20 $most "bad.anc: packet $most" mxf-read $y 0 bad.anc new.file
 done
 
 # ---- every line of each system, listed

@@ -14,7 +14,7 @@ Of the samples: laid_K.area, frame.area with cue.sheet laid; film.anc, film.shee
 
 Refused, N being the number: N_NAME.sheet, and N_K.area, which is not read. NAME says for 7 to 10 whether the packet at fault has a location, which
 names a line (line), or stands alone in a sheet without any (alone), and for 20 the line and the system. N_late.area is tail_0.area with its last
-packet damaged.
+packet damaged. KIND_LINE_PLACE_Y.anc, and KIND_LINE_PLACE_Y_K.area: packet PLACE stands on that line, a picture line or one kept free for switching.
 
 word_NAME_WHERE.sheet: packet 1, the last, has a word that is wrong or missing, as NAME says (see `words_at_fault`); WHERE is line or none, as its
 location has it, or beyond, where it has no location."""
@@ -60,12 +60,12 @@ def two(n):
     return n.to_bytes(2, "big")
 
 
-def element(system, packets, padding=0):
-    """ST 436-1, tables 5 to 7, with padding behind the last packet."""
+def element(system, packets, padding=0, each=0):
+    """ST 436-1, tables 5 to 7, with padding behind the last packet, or behind each."""
     value = two(len(packets))
     for k, (line, flags, words) in enumerate(packets):
         samples = bytes(w & 0xFF for w in words[3:-1])
-        behind = padding if k + 1 == len(packets) else 0
+        behind = each + (padding if k + 1 == len(packets) else 0)
         value += two(line) + bytes([4 if system == 3 else 1, 4 if flags & 2 else 5]) + two(len(samples))
         value += (len(samples) + behind).to_bytes(4, "big") + (1).to_bytes(4, "big") + samples + chance.randbytes(behind)
     key = bytes.fromhex("060E2B34 01020101 0D010301 17010201")
@@ -296,9 +296,23 @@ def refused_areas():
     refused(14, 1, 2, changed(long, 3 + 9 + 5, 200))
     refused(15, 1, 2, changed(long, 3 + 9 + 6, long[3 + 9 + 6] ^ 1))
     refused(16, 1, 2, changed(changed(long, 3 + 9, 0xFF), 3 + 10, packs[18] | 0x0F))
-    # Lines 127 and 569.
-    refused(20, 1, 1, changed(changed(packs, 17, 0xFF), 18, packs[18] & 0xF0))
-    refused(20, 1, 2, changed(changed(long, 3 + 9, 0xB9), 3 + 10, packs[18] & 0xF0 | 0x04))
+
+
+def refused_lines():
+    """Packets of many sizes, so that they begin at every place of packs and blocks, of which one stands where no packet may."""
+    picture, switching = {1: (300,), 2: (1123,), 3: (26, 570)}, {1: (7, 570), 2: (8, 569), 3: (7,)}
+    for system in LAST:
+        for kind, line in [("picture", line) for line in picture[system]] + [("switching", line) for line in switching[system]]:
+            for place in (0, 1, 8, 69):
+                packets = list(packets_of(system, [k * 37 % 60 for k in range(70)], lambda k: k % 4))
+                packets[place] = (line, *packets[place][1:])
+                name = f"{kind}_{line}_{place}_{system}"
+                for packing in (1, 2):
+                    area = bytearray(noise[system])
+                    spread(system, user_bytes(packing, system, packets)[0], area)
+                    assert read(system, area, [0] * 32768)[:2] == (20, place), (name, packing)
+                    save(f"{name}_{packing}.area", area)
+                save(f"{name}.anc", element(system, packets, each=3))
 
 
 noise = {system: chance.randbytes(area_size(system)) for system in LAST}
@@ -315,3 +329,4 @@ of_samples()
 refused_sheets()
 sheets_with_words()
 refused_areas()
+refused_lines()

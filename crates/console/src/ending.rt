@@ -41,13 +41,26 @@ fn say_refusal(what: &[u8], number: u64, place: u64, word: u64, sheet: &[u16]) {
     files::say(what, &why[..n]);
 }
 
+fn printed_refusal(number: u64, place: u64) -> i32 {
+    let mut line = [0u8; 64];
+    let n = text::put_refusal(&mut line, number, place);
+    printed(&line[..n], REFUSED, b"")
+}
+
 // A refusal of what is no sheet, by a call that gives back no word.
 pub fn refused(what: &[u8], number: u64, place: u64) -> i32 {
     let none = [0u16; 0];
     say_refusal(what, number, place, 0, &none);
-    let mut line = [0u8; 64];
-    let n = text::put_refusal(&mut line, number, place);
-    printed(&line[..n], REFUSED, b"")
+    printed_refusal(number, place)
+}
+
+// 20 of what is no sheet: the line at which the packet stands was found in it.
+pub fn line_refused(what: &[u8], place: u64, system: u64, line: u64) -> i32 {
+    let mut why = [0u8; 128];
+    let a = text::put_text(&mut why, 0, b": ");
+    let n = refusals::put_line_fault(&mut why, a, place, system, line);
+    files::say(what, &why[..n]);
+    printed_refusal(20, place)
 }
 
 // A refusal by a call that gives back a word too, and was given the sheet whose numbers stand in s.

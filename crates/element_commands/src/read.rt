@@ -5,6 +5,7 @@ use console::arguments::NOT_A_NUMBER;
 use console::ending;
 use console::ending::DONE;
 use console::ending::FAILED;
+use file_codec::lines;
 use file_status::Known;
 use mxf::ElementRead;
 use sheet_file::NUMBERS;
@@ -14,9 +15,13 @@ use sheet_file::NUMBERS;
 const LONGEST: usize = 262144;
 
 // A longer sheet than a sheet file can have, which no command would take, is 17.
-fn refuse(r: ElementRead, element: &[u8], sheet: &[u8]) -> i32 {
+fn refuse(r: ElementRead, system: u64, element: &[u8], bytes: &[u8], sheet: &[u8]) -> i32 {
     if r.number == 3 {
         return ending::refused(b"SYSTEM", r.number, r.place);
+    }
+    if r.number == 20 {
+        let line = lines::in_element(bytes, r.place);
+        return ending::line_refused(element, r.place, system, line);
     }
     let status = ending::refused(element, r.number, r.place);
     if r.number == 17 {
@@ -38,7 +43,7 @@ fn read_and_replace(
     let mut file = [0u8; sheet_file::LONGEST];
     let r = file_codec::read_element(system, fi, bytes, &mut s, &mut file);
     if r.number != 0 {
-        return refuse(r, element, sheet);
+        return refuse(r, system, element, bytes, sheet);
     }
     if !files::replace_by_first(sheet, path, is, &file, 2 * r.numbers) {
         return FAILED;

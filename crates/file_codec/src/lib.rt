@@ -1,4 +1,5 @@
 // The codec on the bytes of files: what the command lays, reads and writes is, by these contracts, what the rules say of the sheet in the file.
+// And, in the module lines, the line of a packet that is refused for it.
 ghost use mathlib.Core.Path.{_≡_};
 ghost use Prim.Native.Nat.{_*_, _≤_};
 ghost use lib.ListN.{length, take};
@@ -6,6 +7,9 @@ ghost use Rattle.rules.specs.Demands.{Lays, Reads};
 ghost use Rattle.rules.specs.Lister.{fileOf};
 ghost use Rattle.mxf.specs.Demands.{Writes as WritesElement, Reads as ReadsElement};
 ghost use Rattle.sheet_file.specs.Files.{sheetIn};
+
+pub mod lines;
+
 use mxf::ElementRead;
 use mxf::ElementWritten;
 use rules::Laid;

@@ -6,6 +6,7 @@ use console::arguments::NOT_A_NUMBER;
 use console::ending;
 use console::ending::DONE;
 use console::ending::FAILED;
+use file_codec::lines;
 use file_status::Known;
 use frame::Hd1080x50i;
 use frame::LIMIT;
@@ -23,9 +24,13 @@ fn put_read(out: &mut [u8], r: ReadBack) -> usize
     text::put(out, c, b'\n')
 }
 
-fn refuse(r: ReadBack, area: &[u8]) -> i32 {
+fn refuse(r: ReadBack, system: u64, area: &[u8], bytes: &[u8]) -> i32 {
     if r.number == 3 {
         return ending::refused(b"SYSTEM", r.number, r.place);
+    }
+    if r.number == 20 {
+        let line = lines::in_area(system, bytes, r.place);
+        return ending::line_refused(area, r.place, system, line);
     }
     ending::refused(area, r.number, r.place)
 }
@@ -42,7 +47,7 @@ fn read_and_replace(
     let mut file = [0u8; 2 * NUMBERS];
     let r = file_codec::read_area(system, bytes, &mut s, &mut file);
     if r.number != 0 {
-        return refuse(r, area);
+        return refuse(r, system, area, bytes);
     }
     if !files::replace_by_first(sheet, path, is, &file, 2 * r.numbers) {
         return FAILED;

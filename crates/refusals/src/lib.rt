@@ -176,18 +176,24 @@ fn is_for_switching(system: u64, line: u64) -> bool {
     system != 3 && (line == 569 || line == 570)
 }
 
-// A location on a line of the frame that packets may not stand on (document 02, A3), and why not: what is not kept free for switching is a picture
-// line.
-fn put_location_not_allowed(out: &mut [u8], at: usize, k: u64, sheet: &[u16]) -> usize
+// Why no packet may stand on a line of the frame (document 02, A3): what is not kept free for switching is a picture line.
+fn put_line(out: &mut [u8], at: usize, system: u64, line: u64) -> usize
     ensures { λ r. ⌜ Counts r (now (out .exit)) ⌝ }
 {
-    let a = put_location(out, at, k, sheet);
-    let line = line_of(sheet, k);
-    let b = text::put_labelled(out, a, b"line ", line);
-    if is_for_switching(number_at(sheet, 1), line) {
-        return text::put_text(out, b, b" is kept free for switching");
+    let a = text::put_labelled(out, at, b"line ", line);
+    if is_for_switching(system, line) {
+        return text::put_text(out, a, b" is kept free for switching");
     }
-    text::put_text(out, b, b" is a picture line")
+    text::put_text(out, a, b" is a picture line")
+}
+
+// 20 of a packet that was read, whose line the caller has found.
+pub fn put_line_fault(out: &mut [u8], at: usize, place: u64, system: u64, line: u64) -> usize
+    ensures { λ r. ⌜ Counts r (now (out .exit)) ⌝ }
+{
+    let a = text::put_labelled(out, at, b"packet ", place);
+    let b = text::put_text(out, a, b": ");
+    put_line(out, b, system, line)
 }
 
 // Where it is wrong: what the place of a refusal counts, and for 7 to 10 the word of the packet (document 02, A2).
@@ -201,7 +207,7 @@ fn put_place(out: &mut [u8], at: usize, number: u64, place: u64, word: u64, shee
             let b = words::put(out, a, sheet, place, word);
             text::put_text(out, b, b": ")
         }
-        14 | 15 | 16 | 18 | 20 => {
+        14 | 15 | 16 | 18 => {
             let a = put_packet(out, at, place, sheet);
             text::put_text(out, a, b": ")
         }
@@ -213,8 +219,7 @@ fn put_place(out: &mut [u8], at: usize, number: u64, place: u64, word: u64, shee
     }
 }
 
-// Where it is wrong, and what. `sheet` is the one that was refused, and without numbers where none was: then 20 is of a packet that was read, whose
-// line is not at hand.
+// Where it is wrong, and what. `sheet` is the one that was refused, and without numbers where none was.
 pub fn put_fault(
     out: &mut [u8],
     at: usize,
@@ -225,9 +230,10 @@ pub fn put_fault(
 ) -> usize
     ensures { λ r. ⌜ Counts r (now (out .exit)) ⌝ }
 {
-    if number == 20 && sheet.len() != 0 {
-        return put_location_not_allowed(out, at, place, sheet);
+    if number == 20 {
+        let a = put_location(out, at, place, sheet);
+        return put_line(out, a, number_at(sheet, 1), line_of(sheet, place));
     }
-    let a = put_place(out, at, number, place, word, sheet);
-    put_words(out, a, number)
+    let b = put_place(out, at, number, place, word, sheet);
+    put_words(out, b, number)
 }
