@@ -87,7 +87,7 @@ fn sum_onto(begun: u32, s: &[u8]) -> u8
     (sum % 256) as u8
 }
 
-// "15 | stored CS byte is not the sum's low byte", then 16, 20, of bytes from header byte 0 to CS; 0 for neither. DID and SDID are summed apart:
+// "15 | stored CS byte is not the sum's low byte", then 16, 20, of bytes from header byte 0 to CS; 0 for none. DID and SDID are summed apart:
 // DC alone is then left to the loop of a packet without user bytes, and 256 bytes of the longest, which vectors sum without a rest.
 fn packet_fault(last: Line, s: &[u8]) -> u64
     requires { ⌜ getD (now s) 5 0 + 7 ≤ length (now s) ⌝ }

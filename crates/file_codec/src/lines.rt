@@ -66,13 +66,14 @@ fn in_string(us: &[u8; 9360], k: u64) -> u64 {
     line(us[at], us[at + 1])
 }
 
+// The line of packet k of an area.
 pub fn in_area(system: u64, area: &[u8], k: u64) -> u64 {
     let mut us = [0u8; 9360];
-    let user_bytes = frame::collect(system, area, &mut us);
+    frame::collect(system, area, &mut us);
     if us[0] == STARTER {
         return in_packs_of_5(&us, k);
     }
-    let opened = packing2::open_long(system, &mut us);
+    packing2::open_long(system, &mut us);
     in_string(&us, k)
 }
 
@@ -116,6 +117,7 @@ fn start_of(e: &[u8], k: u64) -> usize
     at
 }
 
+// The line of packet k of an element.
 pub fn in_element(element: &[u8], k: u64) -> u64 {
     two_at(element, start_of(element, k)) as u64
 }

@@ -51,6 +51,12 @@ packetsOfStructures sys fi n s = listIn (structures sys fi n 22 s)
 abbrev pub Judged : ℕ → Bool → ℕ → List ℕ → Type 0
 Judged sys fi n s = structures sys fi n 22 s ≡ listed (packetsOfStructures sys fi n s)
 
+-- n structures that have been judged for some system and FI: of these their lines say nothing
+pub record Found (n : ℕ) (s : List ℕ) : Type 0 where
+  pub sys : ℕ
+  pub fi : Bool
+  pub judged : Judged sys fi n s
+
 -- n structures that have been judged for some system and FI, and as many numbers to write as their packets have words: of system and FI
 -- the words say nothing
 pub record Shown (n : ℕ) (s out : List ℕ) : Type 0 where

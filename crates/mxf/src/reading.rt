@@ -20,7 +20,7 @@ ghost use Rattle.mxf.specs.Served.{fiRead};
 ghost use Rattle.mxf.specs.Judging.{judged};
 ghost use Rattle.mxf.specs.Reading.{lastTests, readOf};
 ghost use Rattle.mxf.specs.Demands.{Reads};
-ghost use Rattle.mxf.specs.Parts.{packetsOfStructures, Judged, Shown, Sized, Answers};
+ghost use Rattle.mxf.specs.Parts.{packetsOfStructures, Judged, Found, Shown, Sized, Answers};
 
 // "FI is the call's, 0 for 1080".
 fn fi_of(system: u64, fi: bool) -> u16
@@ -96,10 +96,10 @@ fn write_sections(system: u64, fi: bool, packets: usize, s: &[u8], out: &mut [u1
 }
 
 // 20, "a line in the frame that isn't allowed" (document 02, A3): how many packets in front of the first, of an element that has been judged.
-fn allowed(system: u64, fi: bool, last: Line, n: usize, s: &[u8]) -> usize
-    requires { ⌜ Judged system fi n (now s) ⌝ }
-    ensures { λ r. ⌜ ((y : System) → y .last ≡ last .0
-        → r ≡ inFront (locationAllowed y) (locations (packetsOfStructures system fi n (now (s .entry))))) ⌝ }
+fn allowed(last: Line, n: usize, s: &[u8]) -> usize
+    requires { ⌜ Found n (now s) ⌝ }
+    ensures { λ r. ⌜ ((t : Found n (now (s .entry))) (y : System) → y .last ≡ last .0
+        → r ≡ inFront (locationAllowed y) (locations (packetsOfStructures (t .sys) (t .fi) n (now (s .entry))))) ⌝ }
 {
     let mut at = 0;
     let mut k = 0;
@@ -145,7 +145,7 @@ pub fn read(system: u64, fi: bool, element: &[u8], sheet: &mut [u16]) -> Element
         return j;
     }
     let n = j.packets as usize;
-    let k = allowed(system, fi, figures.last_line, n, &element[crate::HEAD..]);
+    let k = allowed(figures.last_line, n, &element[crate::HEAD..]);
     if k != n {
         return refusal(20, k as u64);
     }

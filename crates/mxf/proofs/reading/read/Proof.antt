@@ -1,14 +1,15 @@
 -- `reading::read` meets its contract, a law for each return: 3; 19; 20; what the rest of the tests give. Assumes nothing.
-use Prim.Native.Nat.{_≤_}
+use Prim.Native.Nat.{_-_, _≤_}
 use mathlib.Core.Path.{_≡_, refl, sym}
 use mathlib.Core.Bool.{true}
 use native.Mathlib.Omega.{arith}
-use lib.ListN.{length}
+use lib.ListN.{length, take, drop}
 use borrow.Author.Needs.{needs}
 use Rattle.rules.specs.Base.{Bytes}
 use Rattle.rules.specs.Systems.{known, system}
 use Rattle.mxf.specs.Judging.{judged}
 use Rattle.mxf.specs.Reading.{readOf}
+use Rattle.mxf.specs.Parts.{Found}
 use Rattle.rules.proofs.Blocks.{known-low}
 use Rattle.frame.proofs.Laws.{last-is, is-unknown, is-known}
 use Rattle.mxf.proofs.ReadingLaws.{answered, unknown-system, known-system, refused-before}
@@ -69,6 +70,19 @@ there c =
     let a = d .before .before .before .before .before .before .args in
     head-there (a .system) (a .fi) (a .element .now) (a .sheet .now) (d .judge .result) (judged-is d) (c .if2 .left)
 
+-- and the structures have been judged
+abbrev found : (c : tie.Else2)
+    → (let e = c .before .before .before .before .before .before .before .before .args .element .now in
+    Found (c .before .before .judge .result .packets) (take (length e - 22) (drop 22 e)))
+found c =
+    let d = c .before .before in
+    let a = d .before .before .before .before .before .before .args in
+    record {
+      sys = a .system;
+      fi = a .fi;
+      judged = structs-are (a .system) (a .fi) (a .element .now) (a .sheet .now) (d .judge .result) (judged-is d) (c .if2 .left);
+    }
+
 sub-allowed : tie.Need-sub-allowed
 sub-allowed c = let h = there c in omega arith
 
@@ -79,10 +93,7 @@ part-allowed-end : tie.Need-part-allowed-end
 part-allowed-end c = search needs
 
 allowed-requires : tie.Need-allowed-requires
-allowed-requires c κs =
-    let d = c .before .before .before in
-    let a = d .before .before .before .before .before .before .args in
-    structs-are (a .system) (a .fi) (a .element .now) (a .sheet .now) (d .judge .result) (judged-is d) (c .before .if2 .left)
+allowed-requires c κs = found (c .before)
 
 refusal-requires-2 : tie.Need-refusal-requires-2
 refusal-requires-2 c κs = search needs
@@ -99,7 +110,7 @@ returns-3 c =
     answered (a .system) (a .fi) (a .element .now) (a .sheet .now) (c .refusal2 .result) (a .sheet .now) (bytes f)
     (known-system (a .system) (a .fi) (a .element .now) (a .sheet .now) (c .refusal2 .result) (a .sheet .now) (is-one (d .before))
     (not-allowed (a .system) (a .fi) (a .element .now) (a .sheet .now) (d .judge .result) (judged-is d) (z .if2 .left) (w .allowed .result)
-    (w .allowed .ensures (system (a .system)) is) (c .before .if3 .taken) (c .refusal2 .result) (c .refusal2 .ensures)))
+    (w .allowed .ensures (found z) (system (a .system)) is) (c .before .if3 .taken) (c .refusal2 .result) (c .refusal2 .ensures)))
 
 written-requires : tie.Need-written-requires
 written-requires c κs =
@@ -125,7 +136,7 @@ returns-4 c =
     answered (a .system) (a .fi) (a .element .now) (a .sheet .now) (v .written .result) after (bytes f)
     (known-system (a .system) (a .fi) (a .element .now) (a .sheet .now) (v .written .result) after (is-one (d .before))
     (all-allowed (a .system) (a .fi) (a .element .now) (a .sheet .now) (d .judge .result) (judged-is d) (z .if2 .left) (w .allowed .result)
-    (w .allowed .ensures (system (a .system)) is) (v .before .before .if3 .left) (v .written .result) after (v .written .ensures)))
+    (w .allowed .ensures (found z) (system (a .system)) is) (v .before .before .if3 .left) (v .written .result) after (v .written .ensures)))
 
 pub read-spec : {M : Type 1} → statement M
 read-spec =
