@@ -313,6 +313,15 @@ def refused_lines():
                     assert read(system, area, [0] * 32768)[:2] == (20, place), (name, packing)
                     save(f"{name}_{packing}.area", area)
                 save(f"{name}.anc", element(system, packets, each=3))
+        # The last packet of a frame full of packs of five, and one behind arrays whose count needs three bytes.
+        sizes, line = [0] * ({1: 1560, 2: 1872, 3: 1560}[system] // 2), 26
+        packets = list(packets_of(system, sizes, lambda k: k % 4))
+        packets[-1] = (line, *packets[-1][1:])
+        area = bytearray(noise[system])
+        spread(system, user_bytes(1, system, packets)[0], area)
+        assert read(system, area, [0] * 32768)[:2] == (20, len(sizes) - 1), system
+        save(f"picture_{line}_{len(sizes) - 1}_{system}_1.area", area)
+        save(f"picture_{line}_2_{system}.anc", element(system, [*packets[:2], packets[-1]], each=80000))
 
 
 noise = {system: chance.randbytes(area_size(system)) for system in LAST}
