@@ -10,10 +10,10 @@ use mathlib.Core.List.{List, [], _∷_, _++_, append-nil}
 use native.Mathlib.Nat.{sub-zero}
 use native.Mathlib.Omega.{arith}
 use native.Mathlib.Numerals.{add-one, add-six, add-seven}
-use lib.Dec.{eqb, leb}
+use lib.Dec.{eqb, ltb, leb}
 use lib.ListN.{length, getD, take, drop, length-append, length-drop, length-map}
 use lib.Seq.{length-take-le, take-length, take-at, take-take, getD-take}
-use borrow.Author.Tests.{eqb-true, ne-eqb, le-ltb, leb-true}
+use borrow.Author.Tests.{ltb-true, eqb-true, eqb-false, ne-eqb, lt-ltb, le-ltb, leb-true}
 use Rattle.rules.specs.Base.{allIs, All, none, one, Bytes}
 use Rattle.rules.specs.Systems.{System}
 use Rattle.rules.specs.Packet.{Packet}
@@ -30,10 +30,11 @@ use Rattle.danc.specs.Code.{base, codeOf}
 use Rattle.danc.proofs.Laws.{lastOnly}
 use Rattle.danc.proofs.Codes.{refusal-code}
 use Rattle.danc.proofs.Validation.{is-small}
-use Rattle.unpacking1.specs.Open.{packsAt, Within, used, orderFrom, fits, PacketOpened, Opens, packetsFrom, packetsOfFives}
-use Rattle.unpacking1.proofs.Packs.{kept-later, kept-packs, window-front, window-at, window-part}
+use Rattle.unpacking1.specs.Open.{packsAt, Within, used, orderFrom, fits, PacketOpened, Opens}
+use Rattle.unpacking1.specs.Open.{packetsFrom, packetsOfPacks, endCode, packetsOfFives}
+use Rattle.unpacking1.proofs.Packs.{kept-later, kept-at, kept-packs, window-front, window-at, window-part}
 use Rattle.unpacking1.proofs.Packs.{packAt, packs-drop, packs-length, first-pack}
-use Rattle.unpacking1.proofs.Order.{used-within, used-goes, used-lead, order-ends, order-one, order-place}
+use Rattle.unpacking1.proofs.Order.{used-within, used-goes, order-ends, order-one, order-place}
 use Rattle.unpacking1.proofs.Packet.{carried-length}
 
 -- ---- packets in front of an outcome
@@ -143,8 +144,8 @@ front-bytes-length p ps =
 -- ---- packets opened one after the other
 
 -- what is left falls when a place rises
-fewer : (fill r next : ℕ) → r < fill → r < next → fill - next < fill - r
-fewer fill r next h k = omega arith
+fewer : (total r next : ℕ) → r < total → r < next → total - next < total - r
+fewer total r next h k = omega arith
 
 -- the packets before packet k, opened, stand as a string in the first w bytes; what is read from r on is the rest
 pub record Done (y : System) (before us : List ℕ) (total r w k : ℕ) : Type 0 where
@@ -155,25 +156,29 @@ pub record Done (y : System) (before us : List ℕ) (total r w k : ℕ) : Type 0
   pub rest : packetsFrom y (packsAt before 0 total)
       ≡ alsoAll (packetsOf items) (packetsIn (packRow y) (limit - k) k (packsAt before r total))
 
--- what holds when packet k is next: `us` are the bytes that were `before`, opened up to r, where a pack begins
-pub record Opening (last : ℕ) (before us : List ℕ) (total fill r w k : ℕ) : Type 0 where
+-- what holds when packet k is next: `us` are the bytes that were `before`, opened up to r, where a pack begins, and the packs from there on are
+-- in order where all are. A packet takes two packs at least
+pub record Opening (last : ℕ) (before us : List ℕ) (total r w k : ℕ) : Type 0 where
   pub packs : Within before r total
+  pub place : r % 5 ≡ 0
   pub low : w ≤ r
-  pub few : k ≤ limit
-  pub before-fill : r + 5 * used (packsAt before r total) ≡ fill
+  pub few : 10 * k ≤ r
+  pub order : orderFrom false r (packsAt before r total) ≡ orderFrom false 0 (packsAt before 0 total)
+  pub size : length before ≡ 9360
   pub long : length us ≡ length before
   pub kept : drop r us ≡ drop r before
   pub done : (y : System) → y .last ≡ last → Done y before us total r w k
 
 -- nothing is opened yet
-pub opening-none : (last : ℕ) (us : List ℕ) (total fill : ℕ) → Within us 0 total → fill ≡ 5 * used (packsAt us 0 total)
-    → Opening last us us total fill 0 0 0
-opening-none last us total fill p f =
+pub opening-none : (last : ℕ) (us : List ℕ) (total : ℕ) → Within us 0 total → length us ≡ 9360 → Opening last us us total 0 0 0
+opening-none last us total p l =
     record {
       packs = p;
+      place = refl;
       low = omega arith;
       few = omega arith;
-      before-fill = omega arith;
+      order = refl;
+      size = l;
       long = refl;
       kept = refl;
       done = λ y e. record { items = []; good = none; many = refl; laid = refl; rest = from-first y };
@@ -188,14 +193,43 @@ pub refused-opens : {y : System} {o : Outcome} {n k r : ℕ} {us : List ℕ} →
 refused-opens {y} {o} {n} {k} {r} e h j q =
     record { answer = refusal-code r n k q h j ∙ ap (codeOf 0 0) (sym e); string = λ ps f. never (cc) }
 
-module _ {last : ℕ} {before us : List ℕ} {total fill r w k : ℕ} (v : Opening last before us total fill r w k) where
-  -- the packs that are left
+module _ {last : ℕ} {before us : List ℕ} {total r w k : ℕ} (v : Opening last before us total r w k) where
+  -- all packs, and those that are left
+  abbrev packs : List Five
+  packs = packsAt before 0 total
+
   abbrev left : List Five
   left = packsAt before r total
 
   -- they stand in the bytes as they were
   left-us : packsAt us r total ≡ left
   left-us = kept-packs us before r (v .kept) r total (omega arith)
+
+  -- the answer of the two readers from here on is that from the first pack on
+  order-us : orderFrom false r (packsAt us r total) ≡ orderFrom false 0 packs
+  order-us = ap (orderFrom false r) left-us ∙ v .order
+
+  -- 13
+  pub refused-order : orderFrom false 0 packs ≡ 1 → (y : System) → packetsOfPacks y packs ≡ refused 13 0
+  refused-order e y = ap (λ (b : Bool). unless 13 b (packetsFrom y packs)) (order-one 0 refl packs e)
+
+  -- packs in order: what their packets give is the outcome
+  module _ (o : orderFrom false 0 packs ≡ 1 → ⊥) where
+    in-order : (y : System) {p : Outcome} → packetsFrom y packs ≡ p → packetsOfPacks y packs ≡ p
+    in-order y q = ap (λ (b : Bool). unless 13 b (packetsFrom y packs)) (order-place 0 refl packs o .0) ∙ q
+
+    -- those left are so too
+    left-place : (inOrder false left ≡ true) × (orderFrom false r left ≡ r + 5 * used left)
+    left-place = order-place r (v .place) left (λ e. o (sym (v .order) ∙ e))
+
+  -- no more packets than there are packs for
+  below-limit : r < total → k < limit
+  unfolding limit
+  below-limit h = let a = v .few in let b = v .packs .all in let c = v .size in omega arith
+
+  -- a refusal has room for the packet
+  pub below-base : k < base
+  below-base = let a = v .few in let p = v .packs in let b = p .all in let d = p .reach in let c = v .size in omega arith
 
   -- the first w bytes are there
   front-long : length (take w us) ≡ w
@@ -206,39 +240,40 @@ module _ {last : ℕ} {before us : List ℕ} {total fill r w k : ℕ} (v : Openi
       let d = v .long in
       length-take-le w us (omega arith)
 
+  -- the packs left are whole, in the bytes as they are now
+  pub packet-within : Within us r total
+  packet-within =
+      let p = v .packs in
+      let a = p .all in
+      let l = v .long in
+      record { reach = p .reach; all = omega arith; whole = p .whole }
+
   -- all packets, from those before packet k and what is read from there on
   whole-is : (y : System) (e : y .last ≡ last) (o : Outcome) → packetsIn (packRow y) (limit - k) k left ≡ o
-      → packetsFrom y (packsAt before 0 total) ≡ alsoAll (packetsOf (v .done y e .items)) o
+      → packetsFrom y packs ≡ alsoAll (packetsOf (v .done y e .items)) o
   whole-is y e o q = v .done y e .rest ∙ ap (alsoAll (packetsOf (v .done y e .items))) q
 
   -- a refusal of packet k is the whole outcome
   refused-is : (y : System) → y .last ≡ last → (n : ℕ) → packetsIn (packRow y) (limit - k) k left ≡ refused n k
-      → packetsFrom y (packsAt before 0 total) ≡ refused n k
+      → packetsFrom y packs ≡ refused n k
   refused-is y e n q = whole-is y e (refused n k) q ∙ also-refused (packetsOf (v .done y e .items)) n k
 
   -- the end
-  module _ (stops : fill ≤ r) (ends : packsEnd (packsAt before fill total) ≡ true) where
-    -- what is left is fill
-    left-ends : packsEnd left ≡ true
-    left-ends =
-        let b = v .before-fill in
-        let e : r ≡ fill = omega arith in
-        ap (λ (a : ℕ). packsEnd (packsAt before a total)) e ∙ ends
-
+  module _ (o : orderFrom false 0 packs ≡ 1 → ⊥) (ends : packsEnd left ≡ true) where
     -- how many packets there are and where their string ends, which stands in front
-    pub opening-done : (y : System) → y .last ≡ last → Opens y (packetsFrom y (packsAt before 0 total)) (k + base * w) us
+    opening-done : (y : System) → y .last ≡ last → Opens y (packetsOfPacks y packs) (k + base * w) us
     opening-done y e =
         let d = v .done y e in
         let xs : List Item = d .items in
-        let o : packetsFrom y (packsAt before 0 total) ≡ listed (packetsOf xs) =
-        whole-is y e (listed []) (packs-ended y left k (limit - k) left-ends) ∙ also-listed (packetsOf xs) in
+        let q : packetsOfPacks y packs ≡ listed (packetsOf xs) =
+        in-order o y (whole-is y e (listed []) (packs-ended y left k (limit - k) ends) ∙ also-listed (packetsOf xs)) in
         let m : length (packetsOf xs) ≡ k = length-map xs (λ (x : Item). x .packet) ∙ d .many in
         let t = front-long in
         let n : w ≡ stringBytes (packetsOf xs) = sym t ∙ ap length (d .laid) ∙ string-room xs in
         record {
-          answer = (let z : k + base * w ≡ codeOf 0 0 (listed (packetsOf xs)) = omega arith in z) ∙ ap (codeOf 0 0) (sym o);
+          answer = (let z : k + base * w ≡ codeOf 0 0 (listed (packetsOf xs)) = omega arith in z) ∙ ap (codeOf 0 0) (sym q);
           string =
-              λ ps q.
+              λ ps f.
               let p : packetsOf xs ≡ ps = cc in
               record {
                 items = xs;
@@ -248,237 +283,298 @@ module _ {last : ℕ} {before us : List ℕ} {total fill r w k : ℕ} (v : Openi
               };
         }
 
+  -- one packet more, where it is no end
+  module _ (rest : r < total) (goes : packsEnd left ≡ false) where
+    -- below the limit one packet more may come
+    more : limit - k ≡ suc (limit - (k + 1))
+    more = let f = below-limit rest in omega arith
+
+    -- packet k has a fault
+    refused-fault : (n : ℕ) → (n ≡ 0 → ⊥) → (y : System) → y .last ≡ last → packsFault y left ≡ n → packetsFrom y packs ≡ refused n k
+    refused-fault n z y e f =
+        refused-is y e n (ap (λ (m : ℕ). packetsIn (packRow y) m k left) more ∙ packs-fault y left k (limit - (k + 1)) n goes f z)
+
+    -- 14, of packs in order
+    fourteen : (orderFrom false 0 packs ≡ 1 → ⊥) → fits left ≡ false → (y : System) → y .last ≡ last → packetsOfPacks y packs ≡ refused 14 k
+    fourteen o f y e =
+        in-order o y
+        (refused-fault 14 (λ z. omega arith) y e (fault-is y left ∙ ap (λ (b : Bool). cond b (bytesFault y (frontBytes left)) 14) f))
+
+  -- where no packet starts: what `ended` answers
+  module _ (n : (ltb r total && eqb (getD us r 0) 0xE1) ≡ false) where
+    -- packs in order that do not end here begin with a carrier
+    no-start : r < total → fits left ≡ false
+    no-start h =
+        let k : getD us r 0 ≡ getD before r 0 = kept-at us before r (v .kept) in
+        let e : eqb (getD before r 0) 0xE1 ≡ false =
+        ap (λ (i : ℕ). eqb i 0xE1) (sym k) ∙ (rw (lt-ltb r total h) at n) in
+        rw (first-pack (v .packs) h, e)
+
+    pub opening-ended : {q : ℕ} → q ≡ endCode (orderFrom false r (packsAt us r total)) r w k
+        → (y : System) → y .last ≡ last → Opens y (packetsOfPacks y packs) q us
+    opening-ended {q} c y e = go (eqb (orderFrom false 0 packs) 1) refl (eqb (orderFrom false 0 packs) r) refl (c ∙ ap (λ (x : ℕ). endCode x r w k) order-us)
+      where
+        -- fill begins here, or a pack is left
+        here : (orderFrom false 0 packs ≡ 1 → ⊥) → r + 5 * used left ≡ orderFrom false 0 packs
+        here o = sym (left-place o .1) ∙ v .order
+
+        go : (a : Bool) → eqb (orderFrom false 0 packs) 1 ≡ a → (b : Bool) → eqb (orderFrom false 0 packs) r ≡ b
+            → q ≡ cond a (codeOf 0 0 (refused 13 0)) (cond b (k + base * w) (codeOf 0 0 (refused 14 (k % base))))
+            → Opens y (packetsOfPacks y packs) q us
+        go true f b g c = refused-opens (refused-order (eqb-true (orderFrom false 0 packs) 1 f) y) (omega arith) (omega arith) c
+        go false f true g c =
+            let o = eqb-false (orderFrom false 0 packs) 1 f in
+            let u : used left ≡ 0 = let h = here o in let i = eqb-true (orderFrom false 0 packs) r g in omega arith in
+            let d : packsEnd left ≡ true =
+            ap (λ (m : ℕ). packsEnd (drop m left)) (sym u) ∙ order-ends false left (left-place o .0) in
+            rw c (opening-done o d y e)
+        go false f false g c =
+            let o = eqb-false (orderFrom false 0 packs) 1 f in
+            let h = here o in
+            let i = eqb-false (orderFrom false 0 packs) r g in
+            let u : 0 < used left = omega arith in
+            let l = used-within left in
+            let m = packs-length (v .packs) in
+            let t : r < total = omega arith in
+            refused-opens (fourteen t (used-goes left u) o (no-start t) y e) (omega arith) below-base c
+
   -- one packet more
-  module _ (goes : r < fill) where
-    -- fill begins within the packs
-    fill-within : fill ≤ total
-    fill-within =
-        let b = v .before-fill in
-        let u = used-within left in
-        let l = packs-length (v .packs) in
-        omega arith
+  module _ (starts : (ltb r total && eqb (getD us r 0) 0xE1) ≡ true) where
+    start-parts : (ltb r total ≡ true) × (eqb (getD us r 0) 0xE1 ≡ true)
+    start-parts = both (ltb r total) (eqb (getD us r 0) 0xE1) starts
 
-    -- a pack is left, where the packet has to start
+    -- a pack is left, where the packet starts
     pub packet-left : r < total
-    packet-left = let f = fill-within in omega arith
+    packet-left = ltb-true r total (start-parts .0)
 
-    -- the packs left are whole, in the bytes as they are now
-    pub packet-within : Within us r total
-    packet-within =
-        let p = v .packs in
-        let a = p .all in
-        let l = v .long in
-        record { reach = p .reach; all = omega arith; whole = p .whole }
+    -- with a starter
+    starter-there : getD before r 0 ≡ 0xE1
+    starter-there = sym (kept-at us before r (v .kept)) ∙ eqb-true (getD us r 0) 0xE1 (start-parts .1)
 
-    -- before fill is no end
+    -- which is no end
     left-goes : packsEnd left ≡ false
-    left-goes = let b = v .before-fill in used-goes left (omega arith)
+    left-goes =
+        let u : used left ≡ suc (used (packsAt before (r + 5) total)) = rw (first-pack (v .packs) packet-left, starter-there) refl in
+        used-goes left (omega arith)
 
-    -- packet k is one too many
-    pub refused-five : k ≡ limit → (y : System) → y .last ≡ last → packetsFrom y (packsAt before 0 total) ≡ refused 5 k
-    refused-five q y e =
-        let z : limit - k ≡ 0 = omega arith in
-        refused-is y e 5 (ap (λ (n : ℕ). packetsIn (packRow y) n k left) z ∙ packs-full y left k left-goes)
+    -- after the packet was opened
+    module _ {after : List ℕ} {next : ℕ} (o : PacketOpened us after r total w next) where
+      -- 13: the packs are not in order
+      pub refused-wrong : next ≡ 1 → (y : System) → packetsOfPacks y packs ≡ refused 13 0
+      refused-wrong q y = refused-order (sym order-us ∙ o .wrong q) y
 
-    module _ (few : k ≡ limit → ⊥) where
-      -- below the limit one packet more may come
-      more : limit - k ≡ suc (limit - (k + 1))
-      more = let f = v .few in omega arith
+      -- its packs do not pass 14
+      pub refused-fourteen : next ≡ 0 → (y : System) → y .last ≡ last → packetsOfPacks y packs ≡ refused 14 k
+      refused-fourteen q y e =
+          fourteen packet-left left-goes (λ h. o .ordered q (order-us ∙ h)) (ap fits (sym left-us) ∙ o .shut q) y e
 
-      -- packet k has a fault
-      refused-fault : (n : ℕ) → (n ≡ 0 → ⊥) → (y : System) → y .last ≡ last → packsFault y left ≡ n
-          → packetsFrom y (packsAt before 0 total) ≡ refused n k
-      refused-fault n z y e f =
-          refused-is y e n (ap (λ (m : ℕ). packetsIn (packRow y) m k left) more ∙ packs-fault y left k (limit - (k + 1)) n left-goes f z)
+      module _ (z : 1 < next) where
+        -- they do: the bytes in its packs
+        abbrev bytes : List ℕ
+        bytes = frontBytes left
 
-      -- after the packet was opened
-      module _ {after : List ℕ} {next : ℕ} (o : PacketOpened us after r total w next) where
-        -- its packs do not pass 14
-        pub refused-fourteen : next ≡ 0 → (y : System) → y .last ≡ last → packetsFrom y (packsAt before 0 total) ≡ refused 14 k
-        refused-fourteen q y e =
-            let f : fits left ≡ false = ap fits (sym left-us) ∙ o .shut q in
-            refused-fault 14 (λ z. omega arith) y e (fault-is y left ∙ ap (λ (b : Bool). cond b (bytesFault y (frontBytes left)) 14) f)
+        -- DC among them
+        abbrev size : ℕ
+        size = getD bytes 5 0
 
-        module _ (z : next ≡ 0 → ⊥) where
-          -- they do: the bytes in its packs
-          abbrev bytes : List ℕ
-          bytes = frontBytes left
+        -- the packs behind its starter
+        abbrev later : List Five
+        later = packsAt before (r + 5) total
 
-          -- DC among them
-          abbrev size : ℕ
-          size = getD bytes 5 0
+        -- 14 is passed
+        left-fits : fits left ≡ true
+        left-fits = ap fits (sym left-us) ∙ o .passes z
 
-          -- the packs behind its starter
-          abbrev later : List Five
-          later = packsAt before (r + 5) total
+        -- the starter is the first pack left
+        left-is : left ≡ packAt before r ∷ later
+        left-is = first-pack (v .packs) packet-left
 
-          -- 14 is passed
-          left-fits : fits left ≡ true
-          left-fits = ap fits (sym left-us) ∙ o .passes z
+        -- it is one, and has as many carriers as DC needs
+        parts : (getD before r 0 ≡ 0xE1) × (lead later ≡ carriersFor size)
+        parts =
+            let q = fits-parts (packAt before r) later (ap fits (sym left-is) ∙ left-fits) in
+            (q .0, q .1 ∙ ap (λ (s : List Five). carriersFor (getD (frontBytes s) 5 0)) (sym left-is))
 
-          -- the starter is the first pack left
-          left-is : left ≡ packAt before r ∷ later
-          left-is = first-pack (v .packs) packet-left
+        -- where its packs end
+        next-is : next ≡ r + 5 + 5 * lead later
+        next-is =
+            let q = o .place z ∙ ap (λ (s : List Five). r + 10 + (getD (frontBytes s) 5 0 + 3) / 4 * 5) left-us in
+            let l = parts .1 in
+            omega arith
 
-          -- it is one, and has as many carriers as DC needs
-          parts : (getD before r 0 ≡ 0xE1) × (lead later ≡ carriersFor size)
-          parts =
-              let q = fits-parts (packAt before r) later (ap fits (sym left-is) ∙ left-fits) in
-              (q .0, q .1 ∙ ap (λ (s : List Five). carriersFor (getD (frontBytes s) 5 0)) (sym left-is))
+        -- fewer bytes are left
+        pub left-falls : total - next < total - r
+        left-falls = let n = next-is in fewer total r next packet-left (omega arith)
 
-          -- where its packs end
-          next-is : next ≡ r + 5 + 5 * lead later
-          next-is =
-              let q = o .place z ∙ ap (λ (s : List Five). r + 10 + (getD (frontBytes s) 5 0 + 3) / 4 * 5) left-us in
-              let l = parts .1 in
-              omega arith
+        -- how many bytes they carry
+        bytes-length : length bytes ≡ 3 + 4 * lead later
+        bytes-length = ap (λ (s : List Five). length (frontBytes s)) left-is ∙ front-bytes-length (packAt before r) later
 
-          -- fewer bytes are left before fill
-          pub left-falls : fill - next < fill - r
-          left-falls = let n = next-is in fewer fill r next goes (omega arith)
+        -- no fewer than the packet has
+        bytes-long : size + 7 ≤ length bytes
+        bytes-long = let a = bytes-length in let l = parts .1 in omega arith
 
-          -- how many bytes they carry
-          bytes-length : length bytes ≡ 3 + 4 * lead later
-          bytes-length = ap (λ (s : List Five). length (frontBytes s)) left-is ∙ front-bytes-length (packAt before r) later
+        -- the packs behind its carriers
+        behind-is : packsAt before next total ≡ drop (lead later) later
+        behind-is =
+            let i = o .within z in
+            let n = next-is in
+            ap (λ (a : ℕ). packsAt before a total) n ∙ sym (packs-drop (lead later) before (r + 5) total (omega arith) (v .packs .all))
 
-          -- no fewer than the packet has
-          bytes-long : size + 7 ≤ length bytes
-          bytes-long = let a = bytes-length in let l = parts .1 in omega arith
+        -- are the packs from the next place on
+        after-is : afterCarriers left ≡ packsAt before next total
+        after-is = ap afterCarriers left-is ∙ sym behind-is
 
-          -- the packs behind its carriers
-          behind-is : packsAt before next total ≡ drop (lead later) later
-          behind-is =
-              let i = o .within in
-              let n = next-is in
-              ap (λ (a : ℕ). packsAt before a total) n ∙ sym (packs-drop (lead later) before (r + 5) total (omega arith) (v .packs .all))
+        -- in order where all are
+        order-is : orderFrom false next (packsAt before next total) ≡ orderFrom false 0 packs
+        order-is =
+            let n = next-is in
+            ap (orderFrom false next) (sym (kept-packs us before r (v .kept) next total (omega arith))) ∙ o .same z ∙ order-us
 
-          -- are the packs from the next place on
-          after-is : afterCarriers left ≡ packsAt before next total
-          after-is = ap afterCarriers left-is ∙ sym behind-is
+        -- they are whole, and as they were
+        pub next-within : length after ≡ length us → Within after next total
+        next-within l =
+            let p = v .packs in
+            let a = p .all in
+            let b = p .whole in
+            let m = next-is in
+            let c = v .long in
+            record { reach = o .within z; all = omega arith; whole = omega arith }
 
-          -- fill begins at the same place
-          used-is : next + 5 * used (packsAt before next total) ≡ fill
-          used-is =
-              let b = v .before-fill in
-              let n = next-is in
-              let u : used left ≡ suc (used later) = ap used left-is ∙ (let q = parts .0 in rw q refl) in
-              let l = used-lead later in
-              let d = ap used behind-is in
-              omega arith
+        next-kept : packsAt after next total ≡ packsAt before next total
+        next-kept =
+            let n = next-is in
+            kept-packs after us next (o .moved z .kept) next total (omega arith)
+            ∙ kept-packs us before r (v .kept) next total (omega arith)
 
-          -- its bytes stand behind the string so far
-          moved-laid : take (w + length bytes) after ≡ take w us ++ bytes
-          moved-laid = rw left-us at (o .moved z .laid)
+        -- its bytes stand behind the string so far
+        moved-laid : take (w + length bytes) after ≡ take w us ++ bytes
+        moved-laid = rw left-us at (o .moved z .laid)
 
-          -- so does DC
-          size-is : getD after (w + 5) 0 ≡ size
-          size-is = let l = bytes-long in window-at after (take w us) bytes w front-long moved-laid 5 (omega arith)
+        -- so does DC
+        size-is : getD after (w + 5) 0 ≡ size
+        size-is = let l = bytes-long in window-at after (take w us) bytes w front-long moved-laid 5 (omega arith)
+
+        -- the packet ends before its packs do
+        pub size-within : w + size + 7 ≤ next
+        size-within = let a = v .low in let n = next-is in let l = parts .1 in omega arith
+
+        -- the bytes from its place on, as many as it brought
+        bytes-there : (m : ℕ) → m ≤ length bytes → take m (drop w after) ≡ take m bytes
+        bytes-there m h =
+            let a : w ≡ w + 0 = omega arith in
+            let b : m ≡ m - 0 = omega arith in
+            ap (λ (i : ℕ). take m (drop i after)) a ∙ ap (λ (i : ℕ). take i (drop (w + 0) after)) b
+            ∙ window-part after (take w us) bytes w front-long moved-laid 0 m h
+
+        -- d is DC as it is read there
+        module _ {d : ℕ} (e : d ≡ getD after (w + 5) 0) where
+          -- so it is DC
+          d-is : d ≡ size
+          d-is = e ∙ size-is
 
           -- the packet ends before its packs do
-          pub size-within : w + size + 7 ≤ next
-          size-within = let a = v .low in let n = next-is in let l = parts .1 in omega arith
+          pub size-below : w + d + 7 ≤ next
+          size-below = let a = size-within in let b = d-is in omega arith
 
-          -- the bytes from its place on, as many as it brought
-          bytes-there : (m : ℕ) → m ≤ length bytes → take m (drop w after) ≡ take m bytes
-          bytes-there m h =
-              let a : w ≡ w + 0 = omega arith in
-              let b : m ≡ m - 0 = omega arith in
-              ap (λ (i : ℕ). take m (drop i after)) a ∙ ap (λ (i : ℕ). take i (drop (w + 0) after)) b
-              ∙ window-part after (take w us) bytes w front-long moved-laid 0 m h
+          -- the bytes that are judged are the packet's
+          part-is : take (w + d + 7 - w) (drop w after) ≡ take (size + 7) bytes
+          part-is =
+              let a : w + d + 7 - w ≡ size + 7 = let b = d-is in omega arith in
+              ap (λ (m : ℕ). take m (drop w after)) a ∙ bytes-there (size + 7) bytes-long
 
-          -- d is DC as it is read there
-          module _ {d : ℕ} (e : d ≡ getD after (w + 5) 0) where
-            -- so it is DC
-            d-is : d ≡ size
-            d-is = e ∙ size-is
+          -- n is the fault that was found
+          module _ {n : ℕ} (q : (y : System) → y .last ≡ last → n ≡ stringFault y (take (w + d + 7 - w) (drop w after))) where
+            -- it is that of the bytes
+            bytes-fault : (y : System) → y .last ≡ last → bytesFault y bytes ≡ n
+            bytes-fault y f = sym (q y f ∙ ap (stringFault y) part-is ∙ prefix-fault y bytes bytes-long)
 
-            -- the packet ends before its packs do
-            pub size-below : w + d + 7 ≤ next
-            size-below = let a = size-within in let b = d-is in omega arith
+            -- and so that of the packs
+            left-fault : (y : System) → y .last ≡ last → packsFault y left ≡ n
+            left-fault y f = fault-is y left ∙ ap (λ (b : Bool). cond b (bytesFault y bytes) 14) left-fits ∙ bytes-fault y f
 
-            -- the bytes that are judged are the packet's
-            part-is : take (w + d + 7 - w) (drop w after) ≡ take (size + 7) bytes
-            part-is =
-                let a : w + d + 7 - w ≡ size + 7 = let b = d-is in omega arith in
-                ap (λ (m : ℕ). take m (drop w after)) a ∙ bytes-there (size + 7) bytes-long
+            -- 15, 16, 20, where the packs are in order: what `refused` answers
+            pub refused-other : (n ≡ 0 → ⊥) → n < base → {c q : ℕ} → c ≡ codeOf 0 0 (refused (n % base) (k % base))
+                → q ≡ cond (eqb (orderFrom false next (packsAt after next total)) 1) (codeOf 0 0 (refused 13 0)) c
+                → (y : System) → y .last ≡ last → {s : List ℕ} → Opens y (packetsOfPacks y packs) q s
+            refused-other m b {c} {q} f g y e {s} =
+                go (eqb (orderFrom false 0 packs) 1) refl
+                (g ∙ ap (λ (i : ℕ). cond (eqb i 1) (codeOf 0 0 (refused 13 0)) c) (ap (orderFrom false next) next-kept ∙ order-is))
+              where
+                go : (t : Bool) → eqb (orderFrom false 0 packs) 1 ≡ t → q ≡ cond t (codeOf 0 0 (refused 13 0)) c
+                    → Opens y (packetsOfPacks y packs) q s
+                go true x g = refused-opens (refused-order (eqb-true (orderFrom false 0 packs) 1 x) y) (omega arith) (omega arith) g
+                go false x g =
+                    let o = eqb-false (orderFrom false 0 packs) 1 x in
+                    refused-opens (in-order o y (refused-fault packet-left left-goes n m y e (left-fault y e))) b below-base (g ∙ f)
 
-            -- n is the fault that was found
-            module _ {n : ℕ} (q : (y : System) → y .last ≡ last → n ≡ stringFault y (take (w + d + 7 - w) (drop w after))) where
-              -- it is that of the bytes
-              bytes-fault : (y : System) → y .last ≡ last → bytesFault y bytes ≡ n
-              bytes-fault y f = sym (q y f ∙ ap (stringFault y) part-is ∙ prefix-fault y bytes bytes-long)
+            -- without a fault they are an item's
+            module _ (fine : n ≡ 0) (known : Bytes after) where
+              -- they are bytes, as all are
+              bytes-known : Bytes bytes
+              bytes-known =
+                  let p : take (length bytes) (drop w after) ≡ bytes = bytes-there (length bytes) (omega arith) ∙ take-length bytes in
+                  subst Bytes p (take-bytes (length bytes) (drop w after) (drop-bytes w after known))
 
-              -- and so that of the packs
-              left-fault : (y : System) → y .last ≡ last → packsFault y left ≡ n
-              left-fault y f = fault-is y left ∙ ap (λ (b : Bool). cond b (bytesFault y bytes) 14) left-fits ∙ bytes-fault y f
+              -- the item that they are
+              abbrev item : Item
+              item = itemOf 0 bytes
 
-              -- 15, 16
-              pub refused-other : (n ≡ 0 → ⊥) → (y : System) → y .last ≡ last → packetsFrom y (packsAt before 0 total) ≡ refused n k
-              refused-other m y f = refused-fault n m y f (left-fault y f)
+              -- its bytes stand in front, and it is good
+              item-is : (y : System) → y .last ≡ last → (take (size + 7) bytes ≡ danc item) × Good y item
+              item-is y f =
+                  let l = bytes-laid y bytes 0 (omega arith) bytes-known bytes-long (bytes-fault y f ∙ fine) in
+                  let a : length (drop 6 bytes) ≡ length bytes - 6 = length-drop 6 bytes in
+                  let b = bytes-long in
+                  let c : length (take size (drop 6 bytes)) ≡ size = length-take-le size (drop 6 bytes) (omega arith) in
+                  let m : length (danc item) ≡ size + 7 = danc-length item ∙ ap (λ (j : ℕ). j + 7) c in
+                  (ap (take (size + 7)) (l .0) ∙ take-at (danc item) (drop (size + 7) bytes) (size + 7) m, l .1)
 
-              -- without a fault they are an item's
-              module _ (fine : n ≡ 0) (known : Bytes after) where
-                -- they are bytes, as all are
-                bytes-known : Bytes bytes
-                bytes-known =
-                    let p : take (length bytes) (drop w after) ≡ bytes = bytes-there (length bytes) (omega arith) ∙ take-length bytes in
-                    subst Bytes p (take-bytes (length bytes) (drop w after) (drop-bytes w after known))
+              -- it is one more of the packets done
+              done-more : (y : System) → y .last ≡ last → Done y before after total next (w + d + 7) (k + 1)
+              done-more y f =
+                  let was = v .done y f in
+                  let x = item-is y f in
+                  let i : w + d + 7 ≡ w + (size + 7) = let j = d-is in omega arith in
+                  let m = was .many in
+                  let c = length-append (was .items) (item ∷ []) in
+                  let none-found : packsFault y left ≡ 0 = left-fault y f ∙ fine in
+                  record {
+                    items = was .items ++ item ∷ [];
+                    good = all-append (Good y) (was .items) (item ∷ []) (was .good) (one (x .1) none);
+                    many = omega arith;
+                    laid =
+                        ap (λ (m : ℕ). take m after) i ∙ window-front after (take w us) bytes w front-long moved-laid (size + 7) bytes-long
+                        ∙ ap₂ (λ (a b : List ℕ). a ++ b) (was .laid) (x .0)
+                        ∙ sym (string-later (was .items) item);
+                    rest =
+                        whole-is y f _
+                        (ap (λ (m : ℕ). packetsIn (packRow y) m k left) (more packet-left left-goes) ∙ packs-goes y left k (limit - (k + 1)) left-goes none-found)
+                        ∙ also-later (was .items) item _
+                        ∙ ap (alsoAll (packetsOf (was .items ++ item ∷ [])))
+                        (ap₂ (λ (m : ℕ) (s : List Five). packetsIn (packRow y) (limit - (k + 1)) m s) (sym (add-one k)) after-is);
+                  }
 
-                -- the item that they are
-                abbrev item : Item
-                item = itemOf 0 bytes
-
-                -- its bytes stand in front, and it is good
-                item-is : (y : System) → y .last ≡ last → (take (size + 7) bytes ≡ danc item) × Good y item
-                item-is y f =
-                    let l = bytes-laid y bytes 0 (omega arith) bytes-known bytes-long (bytes-fault y f ∙ fine) in
-                    let a : length (drop 6 bytes) ≡ length bytes - 6 = length-drop 6 bytes in
-                    let b = bytes-long in
-                    let c : length (take size (drop 6 bytes)) ≡ size = length-take-le size (drop 6 bytes) (omega arith) in
-                    let m : length (danc item) ≡ size + 7 = danc-length item ∙ ap (λ (j : ℕ). j + 7) c in
-                    (ap (take (size + 7)) (l .0) ∙ take-at (danc item) (drop (size + 7) bytes) (size + 7) m, l .1)
-
-                -- it is one more of the packets done
-                done-more : (y : System) → y .last ≡ last → Done y before after total next (w + d + 7) (k + 1)
-                done-more y f =
-                    let was = v .done y f in
-                    let x = item-is y f in
-                    let i : w + d + 7 ≡ w + (size + 7) = let j = d-is in omega arith in
-                    let m = was .many in
-                    let c = length-append (was .items) (item ∷ []) in
-                    let none-found : packsFault y left ≡ 0 = left-fault y f ∙ fine in
-                    record {
-                      items = was .items ++ item ∷ [];
-                      good = all-append (Good y) (was .items) (item ∷ []) (was .good) (one (x .1) none);
-                      many = omega arith;
-                      laid =
-                          ap (λ (m : ℕ). take m after) i ∙ window-front after (take w us) bytes w front-long moved-laid (size + 7) bytes-long
-                          ∙ ap₂ (λ (a b : List ℕ). a ++ b) (was .laid) (x .0)
-                          ∙ sym (string-later (was .items) item);
-                      rest =
-                          whole-is y f _
-                          (ap (λ (m : ℕ). packetsIn (packRow y) m k left) more ∙ packs-goes y left k (limit - (k + 1)) left-goes none-found)
-                          ∙ also-later (was .items) item _
-                          ∙ ap (alsoAll (packetsOf (was .items ++ item ∷ [])))
-                          (ap₂ (λ (m : ℕ) (s : List Five). packetsIn (packRow y) (limit - (k + 1)) m s) (sym (add-one k)) after-is);
-                    }
-
-                -- and the next packet may be opened
-                pub opening-more : length after ≡ length us → Opening last before after total fill next (w + d + 7) (k + 1)
-                opening-more l =
-                    let a = v .few in
-                    let p = v .packs in
-                    let b = p .whole in
-                    let m = next-is in
-                    record {
-                      packs = record { reach = o .within; all = p .all; whole = omega arith };
-                      low = size-below;
-                      few = omega arith;
-                      before-fill = used-is;
-                      long = l ∙ v .long;
-                      kept = o .moved z .kept ∙ kept-later us before r (v .kept) next (omega arith);
-                      done = done-more;
-                    }
+              -- and the next packet may be opened
+              pub opening-more : length after ≡ length us → Opening last before after total next (w + d + 7) (k + 1)
+              opening-more l =
+                  let a = v .few in
+                  let p = v .packs in
+                  let b = p .whole in
+                  let m = next-is in
+                  let c = v .place in
+                  let f = parts .1 in
+                  record {
+                    packs = record { reach = o .within z; all = p .all; whole = omega arith };
+                    place = omega arith;
+                    low = size-below;
+                    few = omega arith;
+                    order = order-is;
+                    size = v .size;
+                    long = l ∙ v .long;
+                    kept = o .moved z .kept ∙ kept-later us before r (v .kept) next (omega arith);
+                    done = done-more;
+                  }
 
 -- a fault's number has room in the number of a refusal
 pub fault-below : {last n : ℕ} (s : List ℕ) → ((y : System) → y .last ≡ last → n ≡ stringFault y s) → n < base
@@ -487,12 +583,8 @@ fault-below {last} {n} s q = is-small (lastOnly last) s n (q (lastOnly last) ref
 -- ---- all of it
 
 module _ (us : List ℕ) (total : ℕ) where
-  -- all packs
-  abbrev packs : List Five
-  packs = packsAt us 0 total
-
   -- the packs from place 0 on are all of them
-  packs-all : packs ≡ fives (take total us)
+  packs-all : packsAt us 0 total ≡ fives (take total us)
   packs-all = let e : total - 0 ≡ total = omega arith in ap (λ (n : ℕ). fives (take n us)) e
 
   -- t: these are whole packs
@@ -510,39 +602,8 @@ module _ (us : List ℕ) (total : ℕ) where
           let m = eqb-true (total % 5) 0 (q .1) in
           record { reach = omega arith; all = leb-true total (length us) (q .0); whole = omega arith }
 
-      -- then the order decides
-      in-order : (y : System) (o : Bool) → inOrder false packs ≡ o → packetsOfFives y us total ≡ unless 13 o (packetsFrom y packs)
+      -- then their packets are the outcome
+      pub opens-all : {y : System} {r : ℕ} {after : List ℕ} → Opens y (packetsOfPacks y (packsAt us 0 total)) r after
+          → Opens y (packetsOfFives y us total) r after
       unfolding packetsOfFives
-      in-order y o q = rw (sym w ∙ e, sym packs-all, q)
-
-      -- the answer of the two readers
-      module _ {fill : ℕ} (f : fill ≡ orderFrom false 0 packs) where
-        -- 13: the order is wrong
-        pub refused-order : fill ≡ 1 → (y : System) → packetsOfFives y us total ≡ refused 13 0
-        refused-order g y = in-order y false (order-one packs (sym f ∙ g))
-
-        -- packs in order
-        module _ (g : fill ≡ 1 → ⊥) where
-          -- what the answer says of them
-          place-is : (inOrder false packs ≡ true) × (orderFrom false 0 packs ≡ 5 * used packs)
-          place-is = order-place packs (λ q. g (f ∙ q))
-
-          -- fill begins behind the starters and carriers
-          pub fill-is : fill ≡ 5 * used packs
-          fill-is = f ∙ place-is .1
-
-          -- and is the end
-          pub fill-ends : packsEnd (packsAt us fill total) ≡ true
-          fill-ends =
-              let u = used-within packs in
-              let l = packs-length whole-packs in
-              let h = fill-is in
-              let p : 0 + 5 * used packs ≡ fill = omega arith in
-              ap (λ (a : ℕ). packsEnd (packsAt us a total)) (sym p)
-              ∙ ap packsEnd (sym (packs-drop (used packs) us 0 total (omega arith) (whole-packs .all)))
-              ∙ order-ends false packs (place-is .0)
-
-          -- so what their packets give is the outcome
-          pub opens-all : {y : System} {r : ℕ} {after : List ℕ} → Opens y (packetsFrom y packs) r after
-              → Opens y (packetsOfFives y us total) r after
-          opens-all {y} o = rw (in-order y true (place-is .0)) o
+      opens-all {y} o = rw (sym w ∙ e, sym packs-all) o

@@ -1,9 +1,9 @@
 -- The order of packs of 5 (document 01, refusal 13), as the two readers `starter` and `carrier` find it, and where fill begins.
 --
--- In order: one pack more in front; what each reader gives back; carriers passed one by one; starters and carriers before fill; the
--- answer from the first pack on.
+-- In order: one pack more in front; what each reader gives back; carriers passed one by one; a packet passed; starters and carriers before
+-- fill; what the answer says.
 -- Assumes nothing.
-use Prim.Native.Nat.{ℕ, suc, _+_, _-_, _*_, _≤_, _<_}
+use Prim.Native.Nat.{ℕ, suc, _+_, _-_, _*_, _%_, _≤_, _<_}
 use mathlib.Core.Path.{_≡_, refl, sym, ap, _∙_}
 use mathlib.Core.Bool.{Bool, true, false, cond, _||_}
 use mathlib.Core.List.{List, [], _∷_}
@@ -117,6 +117,24 @@ passed-more v h e =
     let a = v .reach in
     record { reach = omega arith; packs = behind-first (v .packs) h; same = order-carrier (v .packs) h e refl ∙ v .same }
 
+-- ---- a packet passed
+
+-- a starter, and a pack behind it
+module _ {us : List ℕ} {at total : ℕ} (w : Within us at total) (h : at + 5 < total) (s : getD us at 0 ≡ 0xE1) where
+  -- the packs behind the starter are whole
+  within-behind : Within us (at + 5) total
+  within-behind = behind-first w (omega arith)
+
+  -- which is no carrier
+  pub order-alone : (getD us (at + 5) 0 ≡ 0xE2 → ⊥) → orderFrom false at (packsAt us at total) ≡ 1
+  order-alone n = sym (order-starter w (omega arith) s (order-no-carrier within-behind h n))
+
+  -- which is one: its carriers are passed as well
+  pub order-packet : {f : ℕ} → getD us (at + 5) 0 ≡ 0xE2 → SameOrder us (at + 5) total f
+      → orderFrom false f (packsAt us f total) ≡ orderFrom false at (packsAt us at total)
+  order-packet c v =
+      v .same ∙ sym (order-carrier within-behind h c refl) ∙ order-starter w (omega arith) s (order-second within-behind h c refl)
+
 -- ---- starters and carriers before fill
 
 -- no more than there are packs
@@ -169,22 +187,24 @@ order-ends false (p ∷ ps) o =
     go h k false true o = k o
     go h k false false o = o
 
--- ---- the answer from the first pack on
+-- ---- what the answer says
 
--- 1 is given only where the order is wrong
-pub order-one : (ps : List Five) → orderFrom false 0 ps ≡ 1 → inOrder false ps ≡ false
-unfolding orderFrom
-order-one ps e = go (inOrder false ps) e
-  where
-    go : (t : Bool) → cond t (0 + 5 * used ps) 1 ≡ 1 → t ≡ false
-    go true e = absurd (omega arith)
-    go false e = refl
+-- of packs that stand at a place of a pack
+module _ (at : ℕ) (m : at % 5 ≡ 0) (ps : List Five) where
+  -- 1 is given only where the order is wrong
+  pub order-one : orderFrom false at ps ≡ 1 → inOrder false ps ≡ false
+  unfolding orderFrom
+  order-one e = go (inOrder false ps) e
+    where
+      go : (t : Bool) → cond t (at + 5 * used ps) 1 ≡ 1 → t ≡ false
+      go true e = absurd (omega arith)
+      go false e = refl
 
--- any other answer is where fill begins
-pub order-place : (ps : List Five) → (orderFrom false 0 ps ≡ 1 → ⊥) → (inOrder false ps ≡ true) × (orderFrom false 0 ps ≡ 5 * used ps)
-unfolding orderFrom
-order-place ps n = go (inOrder false ps) n
-  where
-    go : (t : Bool) → (cond t (0 + 5 * used ps) 1 ≡ 1 → ⊥) → (t ≡ true) × (cond t (0 + 5 * used ps) 1 ≡ 5 * used ps)
-    go true n = (refl, omega arith)
-    go false n = absurd (n refl)
+  -- any other answer is where fill begins
+  pub order-place : (orderFrom false at ps ≡ 1 → ⊥) → (inOrder false ps ≡ true) × (orderFrom false at ps ≡ at + 5 * used ps)
+  unfolding orderFrom
+  order-place n = go (inOrder false ps) n
+    where
+      go : (t : Bool) → (cond t (at + 5 * used ps) 1 ≡ 1 → ⊥) → (t ≡ true) × (cond t (at + 5 * used ps) 1 ≡ at + 5 * used ps)
+      go true n = (refl, refl)
+      go false n = absurd (n refl)

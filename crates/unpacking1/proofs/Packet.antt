@@ -1,25 +1,26 @@
 -- The packs of one packet: 14, and its bytes moved down (001, 4.1.1, figures 4 and 7; document 01, refusal 14).
 --
--- In order: carriers in front; where the packs of a packet end; carriers opened; a packet opened.
+-- In order: carriers in front; where the packs of a packet end; carriers opened; unused bytes; a packet opened.
 -- Assumes nothing.
 use Prim.Native.Nat.{ℕ, zero, suc, _+_, _-_, _*_, _/_, _≤_, _<_}
-use mathlib.Core.Path.{_≡_, refl, sym, ap, _∙_}
+use mathlib.Core.Path.{_≡_, refl, sym, ap, _∙_, subst}
 use mathlib.Core.Bool.{Bool, true, false, cond, _&&_}
 use mathlib.Core.List.{List, [], _∷_, _++_, append-nil, append-assoc}
 use native.Mathlib.Omega.{arith}
 use native.Mathlib.Numerals.{add-one, add-two, add-three}
-use lib.Dec.{eqb}
+use lib.Dec.{eqb, ltb}
 use lib.ListN.{length, getD, take, drop, set, length-append}
-use lib.Seq.{length-take-le, take-length, sets, length-sets}
-use borrow.Author.Tests.{eq-eqb, ne-eqb}
+use lib.Seq.{drop-cons, length-take-le, take-length, sets, length-sets}
+use borrow.Author.Tests.{ltb-true, ltb-false, eq-eqb, eqb-true, eqb-false, ne-eqb}
 use Rattle.rules.specs.Base.{allIs}
 use Rattle.rules.specs.Packing1.{Five, carriersFor}
 use Rattle.rules.specs.Reading.{lead, carried, frontBytes, carriersFit}
 use Rattle.rules.proofs.Basics.{never, both, second-false, sets-front, sets-behind}
 use Rattle.rules.proofs.Packs.{lead-within}
-use Rattle.unpacking1.specs.Open.{packsAt, Within, fits, PacksEnd, allCarriers, Moved, CarriersOpened, PacketOpened}
-use Rattle.unpacking1.proofs.Packs.{kept-packs, window-part, packAt, packs-cons, packs-none, packs-drop, packs-take}
+use Rattle.unpacking1.specs.Open.{packsAt, Within, orderFrom, SameOrder, fits, PacksEnd, allCarriers, Moved, CarriersOpened, PacketOpened}
+use Rattle.unpacking1.proofs.Packs.{kept-later, kept-at, kept-packs, window-part, packAt, packs-cons, packs-none, packs-drop, packs-take}
 use Rattle.unpacking1.proofs.Packs.{packs-length, first-pack, behind-first}
+use Rattle.unpacking1.proofs.Order.{passed-none, passed-more, order-alone, order-packet}
 
 -- ---- carriers in front
 
@@ -184,9 +185,12 @@ pub record Carrying (before us : List ℕ) (from stop to f o : ℕ) : Type 0 whe
   pub low : o ≤ f
   pub packs : Within us f stop
   pub long : length us ≡ length before
-  pub kept : drop stop us ≡ drop stop before
+  pub kept : drop f us ≡ drop f before
   pub laid : take o us ++ carried (packsAt us f stop) ≡ take to before ++ carried (packsAt before from stop)
   pub all : allCarriers (packsAt us f stop) ≡ allCarriers (packsAt before from stop)
+  pub first : from < f → getD before from 0 ≡ 0xE2
+  pub same : (total : ℕ) → Within before from total → stop ≤ total → SameOrder before from total f
+  pub reach : from ≤ f
 
 -- the bytes that the pack at a place carries
 abbrev fourAt : List ℕ → ℕ → List ℕ
@@ -194,7 +198,19 @@ fourAt us f = getD us (f + 1) 0 ∷ getD us (f + 2) 0 ∷ getD us (f + 3) 0 ∷ 
 
 -- no carrier is opened yet
 pub carry-none : {us : List ℕ} {from stop to : ℕ} → Within us from stop → to ≤ from → Carrying us us from stop to from to
-carry-none w h = record { start = omega arith; low = h; packs = w; long = refl; kept = refl; laid = refl; all = refl }
+carry-none w h =
+    record {
+      start = omega arith;
+      low = h;
+      packs = w;
+      long = refl;
+      kept = refl;
+      laid = refl;
+      all = refl;
+      first = λ l. absurd (omega arith);
+      same = λ total v l. passed-none v;
+      reach = omega arith;
+    }
 
 -- a turn of the loop, and its end
 module _ {before us : List ℕ} {from stop to f o : ℕ} (v : Carrying before us from stop to f o) where
@@ -218,6 +234,22 @@ module _ {before us : List ℕ} {from stop to f o : ℕ} (v : Carrying before us
         let l = v .low in
         kept-packs next us (f + 5) (sets-behind us o (fourAt us f) (f + 5) (omega arith)) (f + 5) stop (omega arith)
 
+    -- the byte that says what it is stood there before
+    head-kept : getD us f 0 ≡ getD before f 0
+    head-kept = kept-at us before f (v .kept)
+
+    -- it is the first, or another was
+    first-more : getD us f 0 ≡ 0xE2 → getD before from 0 ≡ 0xE2
+    first-more e = go (ltb from f) refl
+      where
+        go : (t : Bool) → ltb from f ≡ t → getD before from 0 ≡ 0xE2
+        go true l = v .first (ltb-true from f l)
+        go false l =
+            let b = ltb-false from f l in
+            let c = v .reach in
+            let k : from ≡ f = omega arith in
+            ap (λ (i : ℕ). getD before i 0) k ∙ sym head-kept ∙ e
+
     -- so one carrier more is opened
     four-more : getD us f 0 ≡ 0xE2 → Carrying before next from stop to (f + 5) (o + 4)
     four-more e =
@@ -233,9 +265,12 @@ module _ {before us : List ℕ} {from stop to f o : ℕ} (v : Carrying before us
           low = omega arith;
           packs = record { reach = r; all = omega arith; whole = b .whole };
           long = n ∙ v .long;
-          kept = sets-behind us o (fourAt us f) stop (omega arith) ∙ v .kept;
+          kept = sets-behind us o (fourAt us f) (f + 5) (omega arith) ∙ kept-later us before f (v .kept) (f + 5) (omega arith);
           laid = rw (s, rest-kept, append-assoc (take o us) (fourAt us f) (carried (packsAt us (f + 5) stop))) (rw front-is at (v .laid));
           all = rw rest-kept (rw (front-is, e) at (v .all));
+          first = λ x. first-more e;
+          same = λ total x y. passed-more (v .same total x y) (omega arith) (sym head-kept ∙ e);
+          reach = let c = v .reach in omega arith;
         }
 
     -- one carrier more, its bytes stored one by one
@@ -246,10 +281,19 @@ module _ {before us : List ℕ} {from stop to f o : ℕ} (v : Carrying before us
     carry-more e = rw (add-one o, add-two o, add-three o) (four-more e)
 
     -- a pack that is no carrier
-    pub carry-wrong : (getD us f 0 ≡ 0xE2 → ⊥) → CarriersOpened before us from stop to false
+    pub carry-wrong : (getD us f 0 ≡ 0xE2 → ⊥) → CarriersOpened before us from stop to f
     carry-wrong n =
         let k : allCarriers (packsAt us f stop) ≡ false = rw (front-is, ne-eqb (getD us f 0) 0xE2 n) in
-        record { carriers = sym k ∙ v .all; moved = λ z. never (cc) }
+        record {
+          within = omega arith;
+          all = λ z. absurd (omega arith);
+          other = λ z. sym (v .all) ∙ k;
+          first = v .first;
+          here = λ z e. n (head-kept ∙ e);
+          same = v .same;
+          kept = v .kept;
+          moved = λ z. absurd (omega arith);
+        }
 
   -- all of them
   module _ (done : stop ≤ f) where
@@ -258,7 +302,7 @@ module _ {before us : List ℕ} {from stop to f o : ℕ} (v : Carrying before us
     all-laid = sym (append-nil (take o us)) ∙ (rw (packs-none us f stop done) at (v .laid))
 
     -- so all was moved
-    pub carry-done : CarriersOpened before us from stop to true
+    pub carry-done : CarriersOpened before us from stop to f
     carry-done =
         let s = v .start in
         let a = v .low in
@@ -270,9 +314,49 @@ module _ {before us : List ℕ} {from stop to f o : ℕ} (v : Carrying before us
         let l = length-append (take to before) (carried (packsAt before from stop)) in
         let m : o ≡ to + length (carried (packsAt before from stop)) = let n = ap length all-laid in omega arith in
         record {
-          carriers = ap allCarriers (sym (packs-none us f stop done)) ∙ v .all;
-          moved = λ z. record { laid = ap (λ (n : ℕ). take n us) (sym m) ∙ all-laid; kept = v .kept };
+          within = b;
+          all = λ z. sym (v .all) ∙ ap allCarriers (packs-none us f stop done);
+          other = λ z. absurd (omega arith);
+          first = v .first;
+          here = λ z. absurd (omega arith);
+          same = v .same;
+          kept = v .kept;
+          moved =
+              λ z. record {
+                laid = ap (λ (n : ℕ). take n us) (sym m) ∙ all-laid;
+                kept = kept-later us before f (v .kept) stop (omega arith);
+              };
         }
+
+-- ---- unused bytes
+
+-- no byte is left
+pub fill-done : (us : List ℕ) (end full : ℕ) → full ≤ end → true ≡ allIs 0xFF (take (full - end) (drop end us))
+fill-done us end full h = let e : full - end ≡ 0 = omega arith in rw e
+
+-- a byte is left, and `next` is behind it
+module _ (us : List ℕ) (end next full : ℕ) (n : next ≡ end + 1) (l : full ≤ length us) (h : end < full) where
+  fill-more : allIs 0xFF (take (full - end) (drop end us)) ≡ (eqb (getD us end 0) 0xFF && allIs 0xFF (take (full - next) (drop next us)))
+  fill-more =
+      let k : full - end ≡ suc (full - next) = omega arith in
+      rw (k, n, add-one end, drop-cons us end 0 (omega arith))
+
+  -- it is FFh: the others decide
+  pub fill-goes : {t : Bool} → getD us end 0 ≡ 0xFF → t ≡ allIs 0xFF (take (full - next) (drop next us))
+      → t ≡ allIs 0xFF (take (full - end) (drop end us))
+  fill-goes e q = q ∙ sym (fill-more ∙ (rw e refl))
+
+  -- it is not
+  pub fill-stops : (getD us end 0 ≡ 0xFF → ⊥) → false ≡ allIs 0xFF (take (full - end) (drop end us))
+  fill-stops m = sym (fill-more ∙ (rw (ne-eqb (getD us end 0) 0xFF m) refl))
+
+  -- it is the last
+  pub fill-last : full ≡ next → eqb (getD us end 0) 0xFF ≡ allIs 0xFF (take (full - end) (drop end us))
+  fill-last e = go (eqb (getD us end 0) 0xFF) ∙ sym (fill-more ∙ ap (λ (b : Bool). eqb (getD us end 0) 0xFF && b) (sym (fill-done us next full (omega arith))))
+    where
+      go : (b : Bool) → b ≡ (b && true)
+      go true = refl
+      go false = refl
 
 -- ---- a packet opened
 
@@ -306,16 +390,34 @@ fits-is : (p : Five) (ps : List Five) (f : List ℕ) (d : ℕ) → p .b0 ≡ 0xE
     → fits (p ∷ ps) ≡ allIs 0xFF (drop (d + 7) f)
 fits-is p ps f d b e k l = rw (b, e, k, l, eq-eqb (carriersFor d) (carriersFor d) refl)
 
--- it does not pass 14
-pub packet-not : {us after : List ℕ} {at total to : ℕ} → fits (packsAt us at total) ≡ false → PacketOpened us after at total to 0
-packet-not f =
-    record {
-      shut = λ o. f;
-      passes = λ o. absurd (o refl);
-      place = λ o. absurd (o refl);
-      within = omega arith;
-      moved = λ o. absurd (o refl);
-    }
+-- it does not pass 14: then the order of the packs from it on decides, which q tells
+pub packet-not : {us after : List ℕ} {at total to q : ℕ} → fits (packsAt us at total) ≡ false
+    → q ≡ cond (eqb (orderFrom false at (packsAt us at total)) 1) 1 0 → PacketOpened us after at total to q
+packet-not {us} {after} {at} {total} {to} {q} f e = go (eqb (orderFrom false at (packsAt us at total)) 1) refl e
+  where
+    go : (t : Bool) → eqb (orderFrom false at (packsAt us at total)) 1 ≡ t → q ≡ cond t 1 0 → PacketOpened us after at total to q
+    go true o e =
+        record {
+          shut = λ z. absurd (omega arith);
+          ordered = λ z. absurd (omega arith);
+          wrong = λ z. eqb-true (orderFrom false at (packsAt us at total)) 1 o;
+          passes = λ h. absurd (omega arith);
+          place = λ h. absurd (omega arith);
+          within = λ h. absurd (omega arith);
+          same = λ h. absurd (omega arith);
+          moved = λ h. absurd (omega arith);
+        }
+    go false o e =
+        record {
+          shut = λ z. f;
+          ordered = λ z. eqb-false (orderFrom false at (packsAt us at total)) 1 o;
+          wrong = λ z. absurd (omega arith);
+          passes = λ h. absurd (omega arith);
+          place = λ h. absurd (omega arith);
+          within = λ h. absurd (omega arith);
+          same = λ h. absurd (omega arith);
+          moved = λ h. absurd (omega arith);
+        }
 
 -- its packs end at `stop`
 module _ {us : List ℕ} {at total stop : ℕ} (w : Within us at total) (e : PacksEnd us at total stop) (z : stop ≡ 0 → ⊥) where
@@ -431,18 +533,101 @@ module _ {us : List ℕ} {at total stop : ℕ} (w : Within us at total) (e : Pac
     cs-kept : packsAt (headed us at to) (at + 5) stop ≡ cs
     cs-kept = kept-packs (headed us at to) us (at + 5) (headed-behind us at to (at + 5) (omega arith)) (at + 5) stop (omega arith)
 
-    -- and the carriers were opened
-    module _ {after : List ℕ} {r : Bool} (v : CarriersOpened (headed us at to) after (at + 5) stop (to + 3) r) where
-      -- whether they are carriers is told
-      carriers-are : (t : Bool) → r ≡ t → allCarriers cs ≡ t
-      carriers-are t f = ap allCarriers (sym cs-kept) ∙ sym (v .carriers) ∙ f
+    -- all packs behind the starter are whole, with the header bytes stored
+    within-headed : Within (headed us at to) (at + 5) total
+    within-headed =
+        let l = headed-length us at to in
+        let c = within-ps in
+        let a = c .all in
+        record { reach = c .reach; all = omega arith; whole = c .whole }
 
-      -- 14: one is not
-      pub opened-shut : r ≡ false → PacketOpened us after at total to 0
-      opened-shut f = packet-not (carriers-shut (carriers-are false f))
+    -- and are as they were
+    head-behind : drop (at + 5) (headed us at to) ≡ drop (at + 5) us
+    head-behind = headed-behind us at to (at + 5) (omega arith)
+
+    -- and the carriers were opened
+    module _ {after : List ℕ} {r : ℕ} (v : CarriersOpened (headed us at to) after (at + 5) stop (to + 3) r) where
+      -- the order of the packs behind the starter is that of those from r on
+      same-headed : SameOrder (headed us at to) (at + 5) total r
+      same-headed = v .same total within-headed (e .within)
+
+      same-us : SameOrder us (at + 5) total r
+      same-us =
+          let h = same-headed in
+          let w = h .packs in
+          let a = w .all in
+          let l = headed-length us at to in
+          let k = kept-packs (headed us at to) us (at + 5) head-behind in
+          record {
+            reach = h .reach;
+            packs = record { reach = w .reach; all = omega arith; whole = w .whole };
+            same =
+                ap (orderFrom false r) (sym (k r total (h .reach))) ∙ h .same
+                ∙ ap (orderFrom false (at + 5)) (k (at + 5) total (omega arith));
+          }
+
+      -- these are as they were
+      rest-there : packsAt after r total ≡ packsAt us r total
+      rest-there =
+          kept-packs after (headed us at to) r (v .kept) r total (omega arith)
+          ∙ kept-packs (headed us at to) us (at + 5) head-behind r total (same-us .reach)
+
+      -- and whole
+      pub rest-within : length after ≡ length us → Within after r total
+      rest-within l =
+          let w = same-us .packs in
+          let a = w .all in
+          record { reach = w .reach; all = omega arith; whole = w .whole }
+
+      -- a pack stands behind the starter
+      second-there : at + 5 < total
+      second-there = let p = stop-is in let i = e .within in omega arith
+
+      -- behind a carrier their order is that of all packs from the packet on
+      rest-order : at + 5 < r → orderFrom false r (packsAt after r total) ≡ orderFrom false at (packsAt us at total)
+      rest-order h =
+          let c : getD us (at + 5) 0 ≡ 0xE2 = sym (kept-at (headed us at to) us (at + 5) head-behind) ∙ v .first h in
+          ap (orderFrom false r) rest-there ∙ order-packet w second-there (e .starts z) c same-us
+
+      -- one is no carrier: what `carriers_wrong` says
+      pub opened-shut : {q : ℕ} → (r ≡ stop → ⊥) → q ≡ cond (eqb r (at + 5)) 1 (cond (eqb (orderFrom false r (packsAt after r total)) 1) 1 0)
+          → PacketOpened us after at total to q
+      opened-shut {q} n f = go (eqb r (at + 5)) refl f
+        where
+          less : r < stop
+          less = let i = v .within in omega arith
+
+          shut : fits (packsAt us at total) ≡ false
+          shut = carriers-shut (ap allCarriers (sym cs-kept) ∙ v .other less)
+
+          go : (t : Bool) → eqb r (at + 5) ≡ t → q ≡ cond t 1 (cond (eqb (orderFrom false r (packsAt after r total)) 1) 1 0)
+              → PacketOpened us after at total to q
+          go true b f =
+              let k : r ≡ at + 5 = eqb-true r (at + 5) b in
+              let no : getD us (at + 5) 0 ≡ 0xE2 → ⊥ =
+              λ c. v .here less
+              (ap (λ (i : ℕ). getD (headed us at to) i 0) k ∙ kept-at (headed us at to) us (at + 5) head-behind ∙ c) in
+              let o = order-alone w second-there (e .starts z) no in
+              packet-not shut (f ∙ sym (ap (λ (i : ℕ). cond (eqb i 1) 1 0) o))
+          go false b f =
+              let k = eqb-false r (at + 5) b in
+              let h : at + 5 < r = let a = same-us .reach in omega arith in
+              packet-not shut (f ∙ ap (λ (i : ℕ). cond (eqb i 1) 1 0) (rest-order h))
 
       -- all are
-      module _ (y : r ≡ true) where
+      module _ (y : r ≡ stop) where
+        -- so one at least was passed
+        passed : at + 5 < r
+        passed = let p = stop-is in omega arith
+
+        -- and from `stop` on whole packs stand
+        pub stop-rest : length after ≡ length us → Within after stop total
+        stop-rest l = subst (λ (i : ℕ). Within after i total) y (rest-within l)
+
+        -- all are carriers
+        all-are : allCarriers cs ≡ true
+        all-are = ap allCarriers (sym cs-kept) ∙ v .all y
+
         -- so the bytes were moved
         opened-moved : Moved us after to front stop
         opened-moved =
@@ -482,21 +667,29 @@ module _ {us : List ℕ} {at total stop : ℕ} (w : Within us at total) (e : Pac
 
           -- so their test is 14
           fits-unused : fits (packsAt us at total) ≡ allIs 0xFF unused
-          fits-unused = fits-front (carriers-are true y) ∙ ap (allIs 0xFF) (sym unused-is)
+          fits-unused = fits-front (all-are) ∙ ap (allIs 0xFF) (sym unused-is)
 
           -- 14: one of them is not FFh
-          pub packet-shut : allIs 0xFF unused ≡ false → PacketOpened us after at total to 0
-          packet-shut f = packet-not (fits-unused ∙ f)
+          pub packet-shut : {q : ℕ} → allIs 0xFF unused ≡ false → q ≡ cond (eqb (orderFrom false stop (packsAt after stop total)) 1) 1 0
+              → PacketOpened us after at total to q
+          packet-shut f g =
+              let k = ap (λ (i : ℕ). orderFrom false i (packsAt after i total)) (sym y) ∙ rest-order passed in
+              packet-not (fits-unused ∙ f) (g ∙ ap (λ (i : ℕ). cond (eqb i 1) 1 0) k)
 
           -- all are FFh, and the packet is moved
           pub packet-opened : allIs 0xFF unused ≡ true → PacketOpened us after at total to stop
           packet-opened f =
-              let g = front-bytes (carriers-are true y) in
+              let g = front-bytes all-are in
               let m = opened-moved in
+              let s = stop-is in
+              let k = sym (ap (orderFrom false r) rest-there) ∙ rest-order passed in
               record {
                 shut = λ o. absurd (z o);
-                passes = λ o. fits-unused ∙ f;
-                place = λ o. e .place z ∙ ap (λ (k : ℕ). at + 10 + (k + 3) / 4 * 5) (sym (ap (λ (s : List ℕ). getD s 5 0) g ∙ dc-is));
-                within = e .within;
-                moved = λ o. rw g m;
+                ordered = λ o. absurd (z o);
+                wrong = λ o. absurd (omega arith);
+                passes = λ h. fits-unused ∙ f;
+                place = λ h. e .place z ∙ ap (λ (k : ℕ). at + 10 + (k + 3) / 4 * 5) (sym (ap (λ (s : List ℕ). getD s 5 0) g ∙ dc-is));
+                within = λ h. e .within;
+                same = λ h. ap (λ (i : ℕ). orderFrom false i (packsAt us i total)) (sym y) ∙ k;
+                moved = λ h. rw g m;
               }

@@ -8,7 +8,7 @@ use mathlib.Core.List.{List, [], _∷_, _++_}
 use native.Mathlib.Omega.{arith}
 use native.Mathlib.Numerals.{add-one, add-two, add-three, add-four, add-five}
 use lib.ListN.{length, getD, take, drop, length-drop}
-use lib.Seq.{drop-cons, length-take-le, take-take, take-append-add, drop-append-add, getD-append-add, getD-take, drop-drop}
+use lib.Seq.{drop-cons, length-take-le, take-take, take-append-add, drop-append-add, getD-append-add, getD-take, getD-drop, drop-drop}
 use Rattle.rules.specs.Packing1.{Five, five, flat, fives}
 use Rattle.rules.proofs.Basics.{drop-take}
 use Rattle.rules.proofs.Packs.{flat-fives, flat-length}
@@ -22,6 +22,12 @@ module _ (s t : List ℕ) (a : ℕ) (e : drop a s ≡ drop a t) where
   kept-later b h =
       let k : b ≡ a + (b - a) = omega arith in
       rw k (sym (drop-drop (b - a) a s) ∙ ap (drop (b - a)) e ∙ drop-drop (b - a) a t)
+
+  -- so is the byte at the place
+  pub kept-at : getD s a 0 ≡ getD t a 0
+  kept-at =
+      let k : a + 0 ≡ a = omega arith in
+      rw (sym k) (sym (getD-drop a s 0 0) ∙ ap (λ (l : List ℕ). getD l 0 0) e ∙ getD-drop a t 0 0)
 
   -- and so are the packs there
   pub kept-packs : (b end : ℕ) → a ≤ b → packsAt s b end ≡ packsAt t b end

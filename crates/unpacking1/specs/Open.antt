@@ -2,7 +2,7 @@
 --
 -- In order: packs in a run of bytes; their order (13); one packet (14); all of them.
 -- Assumes nothing.
-use Prim.Native.Nat.{ℕ, suc, _+_, _-_, _*_, _/_, _%_, _≤_}
+use Prim.Native.Nat.{ℕ, suc, _+_, _-_, _*_, _/_, _%_, _≤_, _<_}
 use mathlib.Core.Path.{_≡_}
 use mathlib.Core.Bool.{Bool, true, false, cond, _&&_, _||_}
 use mathlib.Core.List.{List, [], _∷_, _++_}
@@ -14,9 +14,9 @@ use Rattle.rules.specs.Packet.{Packet}
 use Rattle.rules.specs.Danc.{Item, Good, packetsOf, string, stringBytes}
 use Rattle.rules.specs.Sheet.{limit}
 use Rattle.rules.specs.Packing1.{Five, fives}
-use Rattle.rules.specs.Numbers.{Outcome, listed, unless, packetsIn}
+use Rattle.rules.specs.Numbers.{Outcome, listed, refused, unless, packetsIn}
 use Rattle.rules.specs.Reading.{lead, carried, frontBytes, carriersFit, packRow, inOrder}
-use Rattle.danc.specs.Code.{codeOf}
+use Rattle.danc.specs.Code.{base, codeOf}
 
 -- ---- packs in a run of bytes
 
@@ -72,18 +72,29 @@ pub record Moved (before after : List ℕ) (to : ℕ) (s : List ℕ) (stop : ℕ
   pub laid : take (to + length s) after ≡ take to before ++ s
   pub kept : drop stop after ≡ drop stop before
 
--- what the carriers from a place to another carry was moved to a third, where all packs between are carriers, which r tells
-pub record CarriersOpened (before after : List ℕ) (from stop to : ℕ) (r : Bool) : Type 0 where
-  pub carriers : r ≡ allCarriers (packsAt before from stop)
-  pub moved : r ≡ true → Moved before after to (carried (packsAt before from stop)) stop
+-- r is `stop`, or the place of the first pack from a place on that is no carrier: in front of it carriers were passed, and from it on all is
+-- as it was. Where all to `stop` are carriers, what they carry was moved to a third place
+pub record CarriersOpened (before after : List ℕ) (from stop to r : ℕ) : Type 0 where
+  pub within : r ≤ stop
+  pub all : r ≡ stop → allCarriers (packsAt before from stop) ≡ true
+  pub other : r < stop → allCarriers (packsAt before from stop) ≡ false
+  pub first : from < r → getD before from 0 ≡ 0xE2
+  pub here : r < stop → getD before r 0 ≡ 0xE2 → ⊥
+  pub same : (total : ℕ) → Within before from total → stop ≤ total → SameOrder before from total r
+  pub kept : drop r after ≡ drop r before
+  pub moved : r ≡ stop → Moved before after to (carried (packsAt before from stop)) stop
 
--- the bytes of the packet at a place were moved to another, and its packs end at r; 0: it does not pass 14
+-- the bytes of the packet at a place were moved to another, and its packs end at r, with those behind them in order where all are. 0: it does not
+-- pass 14, and the packs are in order. 1: they are not
 pub record PacketOpened (before after : List ℕ) (at total to r : ℕ) : Type 0 where
   pub shut : r ≡ 0 → fits (packsAt before at total) ≡ false
-  pub passes : (r ≡ 0 → ⊥) → fits (packsAt before at total) ≡ true
-  pub place : (r ≡ 0 → ⊥) → r ≡ at + 10 + (getD (frontBytes (packsAt before at total)) 5 0 + 3) / 4 * 5
-  pub within : r ≤ total
-  pub moved : (r ≡ 0 → ⊥) → Moved before after to (frontBytes (packsAt before at total)) r
+  pub ordered : r ≡ 0 → orderFrom false at (packsAt before at total) ≡ 1 → ⊥
+  pub wrong : r ≡ 1 → orderFrom false at (packsAt before at total) ≡ 1
+  pub passes : 1 < r → fits (packsAt before at total) ≡ true
+  pub place : 1 < r → r ≡ at + 10 + (getD (frontBytes (packsAt before at total)) 5 0 + 3) / 4 * 5
+  pub within : 1 < r → r ≤ total
+  pub same : 1 < r → orderFrom false r (packsAt before r total) ≡ orderFrom false at (packsAt before at total)
+  pub moved : 1 < r → Moved before after to (frontBytes (packsAt before at total)) r
 
 -- ---- all of them
 
@@ -103,8 +114,15 @@ pub record Opens (y : System) (o : Outcome) (r : ℕ) (after : List ℕ) : Type 
 abbrev pub packetsFrom : System → List Five → Outcome
 packetsFrom y ps = packetsIn (packRow y) limit 0 ps
 
+-- 13, then packet by packet
+abbrev pub packetsOfPacks : System → List Five → Outcome
+packetsOfPacks y ps = unless 13 (inOrder false ps) (packetsFrom y ps)
+
+-- what is answered at a place where no packet starts, behind k packets and w string bytes, where fill begins at `fill`
+abbrev pub endCode : ℕ → ℕ → ℕ → ℕ → ℕ
+endCode fill at w k =
+    cond (eqb fill 1) (codeOf 0 0 (refused 13 0)) (cond (eqb fill at) (k + base * w) (codeOf 0 0 (refused 14 (k % base))))
+
 -- 13, which is also given where the user bytes are not whole packs, then packet by packet
 unfoldable pub packetsOfFives : System → List ℕ → ℕ → Outcome
-packetsOfFives y us total =
-    unless 13 (leb total (length us) && eqb (total % 5) 0)
-    (unless 13 (inOrder false (fives (take total us))) (packetsFrom y (fives (take total us))))
+packetsOfFives y us total = unless 13 (leb total (length us) && eqb (total % 5) 0) (packetsOfPacks y (fives (take total us)))

@@ -1,15 +1,15 @@
--- `unpacking1::open_packet` meets its contract: 14 by `packs_end`, by a pack that is no carrier, and by unused bytes that are not FFh;
--- and the packet moved down.
+-- `unpacking1::open_packet` meets its contract: 14 by `packs_end`, by a pack that is no carrier, and by unused bytes that are not FFh, or 13 in
+-- their place; and the packet moved down.
 -- Assumes nothing.
-use Prim.Native.Nat.{ℕ}
+use Prim.Native.Nat.{ℕ, _≤_}
 use mathlib.Core.Path.{_≡_, sym, _∙_}
 use native.Mathlib.Omega.{arith}
-use lib.ListN.{length, length-set}
+use lib.ListN.{length}
 use borrow.Author.Needs.{needs}
 use borrow.Author.Tests.{not-true, not-false}
 use Rattle.unpacking1.specs.Open.{Within, PacksEnd}
-use Rattle.unpacking1.proofs.Packet.{headed-length, stop-is, stop-within, carriers-within, packet-not, opened-shut}
-use Rattle.unpacking1.proofs.Packet.{packet-shut, packet-opened}
+use Rattle.unpacking1.proofs.Packet.{headed-length, stop-is, stop-within, carriers-within, rest-within, stop-rest, packet-not}
+use Rattle.unpacking1.proofs.Packet.{opened-shut, packet-shut, packet-opened}
 use Rattle.unpacking1.proofs.open_packet.Statement.{statement}
 use Rattle.unpacking1.proofs.open_packet.Tie as tie
 
@@ -33,6 +33,10 @@ module _ (c : tie.Else1) where
   packs-end : PacksEnd (start .args .us .now) (start .args .at) (start .args .total) stop
   packs-end = c .before .packs-end .ensures
 
+  -- it is moved down
+  low : start .args .to ≤ start .args .at
+  low = start .pre .3
+
 -- where the carriers were opened
 module _ (c : tie.After-open-carriers) where
   -- what was known before
@@ -52,22 +56,20 @@ module _ (c : tie.After-open-carriers) where
 packs-end-requires : tie.Need-packs-end-requires
 packs-end-requires c κs = search needs
 
-same-length : tie.Need-same-length
-same-length c = search needs
+order-wrong-requires : tie.Need-order-wrong-requires
+order-wrong-requires c κs = search needs
 
--- 14
 returns : tie.Need-returns
-returns c = packet-not (c .before .packs-end .ensures .shut (c .if1 .taken))
+returns c = packet-not (c .before .before .before .packs-end .ensures .shut (c .before .before .if1 .taken)) (c .order-wrong .ensures)
 
 add-wide : tie.Need-add-wide
 add-wide c = search needs
 
--- DC is in the first carrier
-slice-read-wide : tie.Need-slice-read-wide
-slice-read-wide c =
-    let e : tie.Else1 = c .before in
-    let p = stop-is (packs e) (packs-end e) (e .if1 .left) in
-    let i = stop-within (packs e) (packs-end e) (e .if1 .left) in
+element-copy-out-wide : tie.Need-element-copy-out-wide
+element-copy-out-wide c =
+    let p = stop-is (packs c) (packs-end c) (c .if1 .left) in
+    let i = stop-within (packs c) (packs-end c) (c .if1 .left) in
+    let l = start c .pre .1 in
     omega arith
 
 wide-requires : tie.Need-wide-requires
@@ -94,35 +96,35 @@ add-full-3 c = search needs
 add-h0 : tie.Need-add-h0
 add-h0 c = search needs
 
-slice-read-h0 : tie.Need-slice-read-h0
-slice-read-h0 c = search needs
+element-copy-out-h0 : tie.Need-element-copy-out-h0
+element-copy-out-h0 c = search needs
 
 add-h1 : tie.Need-add-h1
 add-h1 c = search needs
 
-slice-read-h1 : tie.Need-slice-read-h1
-slice-read-h1 c = search needs
+element-copy-out-h1 : tie.Need-element-copy-out-h1
+element-copy-out-h1 c = search needs
 
 add-h2 : tie.Need-add-h2
 add-h2 c = search needs
 
-slice-read-h2 : tie.Need-slice-read-h2
-slice-read-h2 c = search needs
+element-copy-out-h2 : tie.Need-element-copy-out-h2
+element-copy-out-h2 c = search needs
 
-slice-write-us : tie.Need-slice-write-us
-slice-write-us c = search needs
+element-write-us : tie.Need-element-write-us
+element-write-us c = search needs
 
 add-us : tie.Need-add-us
 add-us c = search needs
 
-slice-write-us-2 : tie.Need-slice-write-us-2
-slice-write-us-2 c = simp length-set (omega arith)
+element-write-us-2 : tie.Need-element-write-us-2
+element-write-us-2 c = search needs
 
 add-us-2 : tie.Need-add-us-2
 add-us-2 c = search needs
 
-slice-write-us-3 : tie.Need-slice-write-us-3
-slice-write-us-3 c = simp length-set (omega arith)
+element-write-us-3 : tie.Need-element-write-us-3
+element-write-us-3 c = search needs
 
 add-open-carriers : tie.Need-add-open-carriers
 add-open-carriers c = search needs
@@ -133,65 +135,61 @@ add-open-carriers-2 c = search needs
 open-carriers-requires : tie.Need-open-carriers-requires
 open-carriers-requires c κs =
     let e : tie.Else1 = c .before .before .before .before .before .before in
-    (carriers-within (packs e) (packs-end e) (e .if1 .left) (start e .pre .2), omega arith)
+    let l = low e in
+    (carriers-within (packs e) (packs-end e) (e .if1 .left) l, omega arith)
 
-same-length-2 : tie.Need-same-length-2
-same-length-2 c = after-long (c .before .before .before)
+add-carriers-wrong : tie.Need-add-carriers-wrong
+add-carriers-wrong c = search needs
 
--- 14: a pack is no carrier
+carriers-wrong-requires : tie.Need-carriers-wrong-requires
+carriers-wrong-requires c κs =
+    let o : tie.After-open-carriers = c .before .before in
+    let e = found o in
+    (rest-within (packs e) (packs-end e) (e .if1 .left) (low e) (o .open-carriers .ensures) (after-long o), after-long o ∙ start e .pre .1)
+
 returns-2 : tie.Need-returns-2
 returns-2 c =
     let o : tie.After-open-carriers = c .before .before .before in
     let e = found o in
-    let r = o .open-carriers in
-    opened-shut (packs e) (packs-end e) (e .if1 .left) (start e .pre .2) (r .ensures) (not-true (r .result) (c .if2 .taken))
+    opened-shut (packs e) (packs-end e) (e .if1 .left) (low e) (o .open-carriers .ensures) (c .before .before .if2 .taken)
+    (c .carriers-wrong .ensures)
 
-sub-all-fill : tie.Need-sub-all-fill
-sub-all-fill c = search needs
-
-part-all-fill-start : tie.Need-part-all-fill-start
-part-all-fill-start c = search needs
-
--- the bytes of the carriers are there, unused ones too
-part-all-fill-end : tie.Need-part-all-fill-end
-part-all-fill-end c =
-    let o : tie.After-open-carriers = c .before .before .before .before in
+unused-are-fill-requires : tie.Need-unused-are-fill-requires
+unused-are-fill-requires c κs =
+    let o : tie.After-open-carriers = c .before .before .before in
     let e = found o in
     let p = stop-is (packs e) (packs-end e) (e .if1 .left) in
     let i = stop-within (packs e) (packs-end e) (e .if1 .left) in
     let d = read o .wide .ensures .0 in
     let l = after-long o in
-    omega arith
+    let m = low e in
+    (omega arith, omega arith, omega arith)
 
-all-fill-requires : tie.Need-all-fill-requires
-all-fill-requires c κs = search needs
+order-wrong-requires-2 : tie.Need-order-wrong-requires-2
+order-wrong-requires-2 c κs =
+    let o : tie.After-open-carriers = c .before .before .before .before .before .before in
+    let e = found o in
+    let all = c .before .before .before .before .before .if2 .left in (
+      stop-rest (packs e) (packs-end e) (e .if1 .left) (low e) (o .open-carriers .ensures) all (after-long o),
+      after-long o ∙ start e .pre .1,
+    )
 
-same-length-3 : tie.Need-same-length-3
-same-length-3 c = after-long (c .before .before .before .before .before .before .before)
-
--- 14: unused bytes are not FFh
 returns-3 : tie.Need-returns-3
 returns-3 c =
     let o : tie.After-open-carriers = c .before .before .before .before .before .before .before in
     let e = found o in
-    let r = o .open-carriers in
-    let all = not-false (r .result) (c .before .before .before .before .if2 .left) in
-    let f = c .before .all-fill in
-    packet-shut (packs e) (packs-end e) (e .if1 .left) (start e .pre .2) (r .ensures) all (read o .wide .ensures .0)
-    (sym (f .ensures) ∙ not-true (f .result) (c .if3 .taken))
+    let all = c .before .before .before .before .before .before .if2 .left in
+    let f = c .before .before .before .unused-are-fill in
+    packet-shut (packs e) (packs-end e) (e .if1 .left) (low e) (o .open-carriers .ensures) all (read o .wide .ensures .0)
+    (sym (f .ensures) ∙ not-true (f .result) (c .before .before .if3 .taken)) (c .order-wrong2 .ensures)
 
-same-length-4 : tie.Need-same-length-4
-same-length-4 c = after-long (c .before .before .before .before .before .before .before)
-
--- the packet
 returns-4 : tie.Need-returns-4
 returns-4 c =
-    let o : tie.After-open-carriers = c .before .before .before .before .before .before .before in
+    let o : tie.After-open-carriers = c .before .before .before .before .before in
     let e = found o in
-    let r = o .open-carriers in
-    let all = not-false (r .result) (c .before .before .before .before .if2 .left) in
-    let f = c .before .all-fill in
-    packet-opened (packs e) (packs-end e) (e .if1 .left) (start e .pre .2) (r .ensures) all (read o .wide .ensures .0)
+    let all = c .before .before .before .before .if2 .left in
+    let f = c .before .unused-are-fill in
+    packet-opened (packs e) (packs-end e) (e .if1 .left) (low e) (o .open-carriers .ensures) all (read o .wide .ensures .0)
     (sym (f .ensures) ∙ not-false (f .result) (c .if3 .left))
 
 pub open-packet-spec : {M : Type 1} → statement M
@@ -199,10 +197,10 @@ open-packet-spec =
     tie.close
     (tie.spec
     packs-end-requires
-    same-length
+    order-wrong-requires
     returns
     add-wide
-    slice-read-wide
+    element-copy-out-wide
     wide-requires
     add-end
     add-end-2
@@ -211,26 +209,23 @@ open-packet-spec =
     add-full-2
     add-full-3
     add-h0
-    slice-read-h0
+    element-copy-out-h0
     add-h1
-    slice-read-h1
+    element-copy-out-h1
     add-h2
-    slice-read-h2
-    slice-write-us
+    element-copy-out-h2
+    element-write-us
     add-us
-    slice-write-us-2
+    element-write-us-2
     add-us-2
-    slice-write-us-3
+    element-write-us-3
     add-open-carriers
     add-open-carriers-2
     open-carriers-requires
-    same-length-2
+    add-carriers-wrong
+    carriers-wrong-requires
     returns-2
-    sub-all-fill
-    part-all-fill-start
-    part-all-fill-end
-    all-fill-requires
-    same-length-3
+    unused-are-fill-requires
+    order-wrong-requires-2
     returns-3
-    same-length-4
     returns-4)
