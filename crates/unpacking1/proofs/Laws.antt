@@ -312,7 +312,8 @@ module _ {last : ℕ} {before us : List ℕ} {total r w k : ℕ} (v : Opening la
 
     pub opening-ended : {q : ℕ} → q ≡ endCode (orderFrom false r (packsAt us r total)) r w k
         → (y : System) → y .last ≡ last → Opens y (packetsOfPacks y packs) q us
-    opening-ended {q} c y e = go (eqb (orderFrom false 0 packs) 1) refl (eqb (orderFrom false 0 packs) r) refl (c ∙ ap (λ (x : ℕ). endCode x r w k) order-us)
+    opening-ended {q} c y e =
+        go (eqb (orderFrom false 0 packs) 1) refl (eqb (orderFrom false 0 packs) r) refl (c ∙ ap (λ (x : ℕ). endCode x r w k) order-us)
       where
         -- fill begins here, or a pack is left
         here : (orderFrom false 0 packs ≡ 1 → ⊥) → r + 5 * used left ≡ orderFrom false 0 packs
@@ -549,7 +550,8 @@ module _ {last : ℕ} {before us : List ℕ} {total r w k : ℕ} (v : Opening la
                         ∙ sym (string-later (was .items) item);
                     rest =
                         whole-is y f _
-                        (ap (λ (m : ℕ). packetsIn (packRow y) m k left) (more packet-left left-goes) ∙ packs-goes y left k (limit - (k + 1)) left-goes none-found)
+                        (ap (λ (m : ℕ). packetsIn (packRow y) m k left) (more packet-left left-goes)
+                        ∙ packs-goes y left k (limit - (k + 1)) left-goes none-found)
                         ∙ also-later (was .items) item _
                         ∙ ap (alsoAll (packetsOf (was .items ++ item ∷ [])))
                         (ap₂ (λ (m : ℕ) (s : List Five). packetsIn (packRow y) (limit - (k + 1)) m s) (sym (add-one k)) after-is);

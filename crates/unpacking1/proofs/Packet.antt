@@ -352,7 +352,9 @@ module _ (us : List ℕ) (end next full : ℕ) (n : next ≡ end + 1) (l : full 
 
   -- it is the last
   pub fill-last : full ≡ next → eqb (getD us end 0) 0xFF ≡ allIs 0xFF (take (full - end) (drop end us))
-  fill-last e = go (eqb (getD us end 0) 0xFF) ∙ sym (fill-more ∙ ap (λ (b : Bool). eqb (getD us end 0) 0xFF && b) (sym (fill-done us next full (omega arith))))
+  fill-last e =
+      go (eqb (getD us end 0) 0xFF)
+      ∙ sym (fill-more ∙ ap (λ (b : Bool). eqb (getD us end 0) 0xFF && b) (sym (fill-done us next full (omega arith))))
     where
       go : (b : Bool) → b ≡ (b && true)
       go true = refl
