@@ -1,25 +1,25 @@
 -- What the proofs of the functions rest on.
 --
--- In order: the parity of a byte; the table of words; a pass over words; a pass over a part of them; the parts of the sum that CS holds; the word
--- that a number names; the packets before the one that is named.
+-- In order: the parity of a byte; the table of words; a pass over words; a pass over a part of them; the sum that CS holds; the word that a
+-- number names; the packets before the one that is named.
 -- Assumes nothing.
 use Prim.Native.Nat.{ℕ, zero, suc, _+_, _-_, _*_, _/_, _%_, _≤_, _<_}
 use mathlib.Core.Path.{_≡_, refl, ap, sym, _∙_, subst}
 use mathlib.Core.Bool.{Bool, true, false, _&&_}
 use mathlib.Core.List.{List, [], _∷_, _++_}
 use native.Mathlib.Omega.{arith}
-use native.Mathlib.Nat.{add-comm, add-zero, zero-add, le-refl}
+use native.Mathlib.Nat.{add-zero, zero-add, le-refl}
 use native.Mathlib.Numerals.{add-one}
 use lib.Bits.{bitXor}
 use lib.Dec.{eqb}
-use lib.ListN.{length, getD, set, take, drop, drop-of-length-le, take-append-drop}
-use lib.Seq.{drop-cons, take-add, drop-drop, take-all}
+use lib.ListN.{length, getD, take, drop, drop-of-length-le, take-append-drop}
+use lib.Seq.{drop-cons, drop-drop, take-all}
 use borrow.Author.Tests.{eq-eqb, ne-eqb, eqb-true}
 use Rattle.rules.specs.Packet.{parity, word, sum9, check}
 use Rattle.rules.specs.Laying.{isWord, areWords, dcIn, wordsFault, wordsBefore, flagWord, wordAt, fromPacket, typeOf, judged}
-use Rattle.rules.proofs.Basics.{both, rest-part, copy-turn, copy-full}
+use Rattle.rules.proofs.Basics.{both, rest-part}
 use Rattle.rules.proofs.Words.{words-append, fault-long}
-use Rattle.packet.specs.Run.{passOf, wordsFrom, wordTable, SizeOf}
+use Rattle.packet.specs.Run.{passOf, checkSum, wordsFrom, wordTable, SizeOf}
 use Rattle.packet.specs.declared.Pass.{Pass}
 
 -- ---- the parity of a byte
@@ -59,19 +59,10 @@ pub table-at : (b : ℕ) → b < 256 → getD wordTable b 0 ≡ word b
 unfolding wordTable
 table-at b h = from-at 256 0 b h ∙ ap word (zero-add b)
 
-pub table-length : length wordTable ≡ 256
-unfolding wordTable
-table-length = refl
-
--- a turn of the loop that fills it
-pub table-turn : (z t : List ℕ) (b w : ℕ) → b < 256 → length z ≡ 256 → w ≡ word b → t ≡ take b wordTable ++ drop b z
-    → set t b w ≡ take (b + 1) wordTable ++ drop (b + 1) z
-table-turn z t b w h l e v =
-    rw (e, ← table-at b h) (copy-turn z t wordTable b (omega arith) (omega (arith, table-length)) v)
-
--- it is full
-pub table-end : (z t : List ℕ) (b : ℕ) → b ≡ 256 → length z ≡ 256 → t ≡ take b wordTable ++ drop b z → t ≡ wordTable
-table-end z t b e l v = copy-full z t wordTable 256 b v e (omega arith) ∙ take-all 256 wordTable (omega (arith, table-length))
+-- a word is looked up by its low byte
+pub table-word : (t : List ℕ) (w b : ℕ) → t ≡ wordTable → b ≡ w % 256 → eqb w (getD t b 0) ≡ isWord w
+unfolding isWord
+table-word t w b right e = rw (right, e, table-at (w % 256) (omega arith))
 
 -- ---- a pass over words: what the word at i adds, and the end
 
@@ -85,20 +76,15 @@ pub words-end : (ok : Bool) (i : ℕ) (ws : List ℕ) → length ws ≤ i → (o
 words-end true i ws h = rw (drop-of-length-le ws h)
 words-end false i ws h = refl
 
--- the same by the table, where the word's low byte is b
-module _ (t : List ℕ) (i b : ℕ) (ws : List ℕ) (h : i < length ws) (e : b ≡ getD ws i 0 % 256) (right : t ≡ wordTable) where
-  table-word : getD t b 0 ≡ word (getD ws i 0 % 256)
-  table-word = rw (right, e) (table-at (getD ws i 0 % 256) (omega arith))
+-- the same where each word is tested apart
+words-at : (i : ℕ) (ws : List ℕ) → i < length ws → areWords (drop i ws) ≡ (isWord (getD ws i 0) && areWords (drop (i + 1) ws))
+words-at i ws h = rw (add-one i, drop-cons ws i 0 h)
 
-  pub looked-right : getD ws i 0 ≡ getD t b 0 → areWords (drop (i + 1) ws) ≡ areWords (drop i ws)
-  looked-right q =
-      ap (λ (b : Bool). b && areWords (drop (i + 1) ws)) (sym (eq-eqb (getD ws i 0) (getD t b 0) q))
-      ∙ words-next true i (getD t b 0) ws h table-word
+pub looked-right : (i : ℕ) (ws : List ℕ) → i < length ws → isWord (getD ws i 0) ≡ true → areWords (drop (i + 1) ws) ≡ areWords (drop i ws)
+looked-right i ws h e = rw (words-at i ws h, e)
 
-  pub looked-wrong : (getD ws i 0 ≡ getD t b 0 → ⊥) → areWords (drop i ws) ≡ false
-  looked-wrong q =
-      sym (words-next true i (getD t b 0) ws h table-word)
-      ∙ ap (λ (b : Bool). b && areWords (drop (i + 1) ws)) (ne-eqb (getD ws i 0) (getD t b 0) q)
+pub looked-wrong : (i : ℕ) (ws : List ℕ) → i < length ws → isWord (getD ws i 0) ≡ false → areWords (drop i ws) ≡ false
+looked-wrong i ws h e = rw (words-at i ws h, e)
 
 pub sum9-next : (i : ℕ) (ws : List ℕ) → i < length ws → sum9 (drop i ws) ≡ getD ws i 0 % 512 + sum9 (drop (i + 1) ws)
 sum9-next i ws h = rw (add-one i, drop-cons ws i 0 h)
@@ -139,17 +125,11 @@ sum9-most zero ws = omega arith
 sum9-most (suc n) [] = omega arith
 sum9-most (suc n) (w ∷ ws) = omega (arith, sum9-most n ws)
 
--- ---- the parts of the sum that CS holds
+-- ---- the sum that CS holds, which may be reduced before
 
--- the words that CS is over: DID, SDID and DC, and then the user words
-sum9-parts : (d : ℕ) (s : List ℕ) → sum9 (take (d + 3) (drop 3 s)) ≡ sum9 (take 3 (drop 3 s)) + sum9 (take d (drop 6 s))
-sum9-parts d s = rw (add-comm d 3, take-add 3 d (drop 3 s), drop-drop 3 3 s) (sum9-append (take 3 (drop 3 s)) (take d (drop 6 s)))
-
--- CS from the whole sums of the two parts
-pub check-parts : (d h u : ℕ) (s : List ℕ) → h ≡ sum9 (take 3 (drop 3 s)) → u ≡ sum9 (take d (drop 6 s))
-    → check (take (d + 3) (drop 3 s)) ≡ (h + u) % 512 + 512 * (1 - (h + u) % 512 / 256)
+pub check-of-sum : (n : ℕ) (ws : List ℕ) → n % 512 ≡ sum9 ws % 512 → checkSum n ≡ check ws
 unfolding check
-check-parts d h u s e f = rw (e, f, sum9-parts d s)
+check-of-sum n ws e = rw e
 
 -- ---- the word that a number names
 

@@ -2,7 +2,7 @@
 --
 -- In order: the figures of packets; a packet and what follows it (`cut-fault`); the test of one (`one-number`).
 -- Assumes nothing.
-use Prim.Native.Nat.{ℕ, zero, suc, _+_, _-_, _/_, _%_, _≤_, _<_}
+use Prim.Native.Nat.{ℕ, zero, suc, _+_, _-_, _*_, _/_, _%_, _≤_, _<_}
 use mathlib.Core.Path.{_≡_, refl, sym, ap, ap₂, _∙_}
 use mathlib.Core.Bool.{Bool, true, false, cond, not}
 use mathlib.Core.List.{List, [], _∷_, map}
@@ -91,22 +91,24 @@ at-end sys k at packs ws h =
     let z : length ws - at ≡ 0 = omega arith in
     rw (z, drop-of-length-le ws h) (simp add-zero)
 
--- a place, and what the test of the packet there gave
-module _ (at : ℕ) (ws : List ℕ) (h : at < length ws) (f : ℕ) (e : f ≡ wordsFault (take (length ws - at) (drop at ws))) where
-  fault-is : f ≡ wordsFault (drop at ws)
-  fault-is = e ∙ ap wordsFault (rest-part at ws)
+-- a place, and the words that are lent from there on
+module _ (at : ℕ) (ws : List ℕ) where
+  abbrev lent : List ℕ
+  lent = take (length ws - at) (drop at ws)
 
   -- "the first at fault is named"
-  pub at-fault : (f ≡ 0 → ⊥) → (sys k packs : ℕ) → testedOf 0 (refused f k) ≡ wholeFrom sys k at packs ws
-  at-fault g sys k packs =
+  pub at-fault : (f : ℕ) → at < length ws → f ≡ wordsFault lent → eqb (wordsFault lent) 0 ≡ false
+      → (sys k packs : ℕ) → testedOf 0 (refused f k) ≡ wholeFrom sys k at packs ws
+  at-fault f h e g sys k packs =
       let l = length-drop at ws in
+      let fault-is : f ≡ wordsFault (drop at ws) = e ∙ ap wordsFault (rest-part at ws) in
       let o : packetsIn wordRow (length ws - at) k (drop at ws) ≡ refused (wordsFault (drop at ws)) k =
-      front-fault (length ws - at) k (drop at ws) (omega arith) (omega arith) (λ z. g (fault-is ∙ z)) in
+      front-fault (length ws - at) k (drop at ws) (omega arith) (omega arith) (λ z. eqb-false (wordsFault lent) 0 g (sym e ∙ fault-is ∙ z)) in
       sym (ap (addTo sys k at packs) (o ∙ ap (λ (n : ℕ). refused n k) (sym fault-is)))
 
-  module _ (z : f ≡ 0) where
+  module _ (z : eqb (wordsFault lent) 0 ≡ true) where
     fine : wordsFault (drop at ws) ≡ 0
-    fine = sym fault-is ∙ z
+    fine = ap wordsFault (sym (rest-part at ws)) ∙ eqb-true (wordsFault lent) 0 z
 
     dc-is : dcIn (drop at ws) ≡ getD ws (at + 5) 0 % 256
     dc-is = ap low (getD-drop at ws 5 0)
@@ -115,9 +117,9 @@ module _ (at : ℕ) (ws : List ℕ) (h : at < length ws) (f : ℕ) (e : f ≡ wo
     pub all-there : at + (getD ws (at + 5) 0 % 256 + 7) ≤ length ws
     all-there = let d = dc-is in let l = length-drop at ws in let m = fault-long (drop at ws) fine in omega arith
 
-    -- one packet more
+    -- one packet more; the two packs of each that have no user bytes are counted apart
     pub at-next : (dc : ℕ) → dc ≡ getD ws (at + 5) 0 % 256 → (sys k packs : ℕ)
-        → wholeFrom sys (k + 1) (at + (dc + 7)) (packs + (2 + (dc + 3) / 4)) ws ≡ wholeFrom sys k at packs ws
+        → wholeFrom sys (k + 1) (at + (dc + 7)) (packs + (dc + 3) / 4 + 2 * (k + 1)) ws ≡ wholeFrom sys k at (packs + 2 * k) ws
     at-next dc e sys k packs =
         let s : List ℕ = drop at ws in
         let l : length s ≡ length ws - at = length-drop at ws in
@@ -126,14 +128,14 @@ module _ (at : ℕ) (ws : List ℕ) (h : at < length ws) (f : ℕ) (e : f ≡ wo
         let m : length (take (dcIn s) (drop 6 s)) ≡ dcIn s = length-take-le (dcIn s) (drop 6 s) (let n = length-drop 6 s in omega arith) in
         let u : length (packetOfWords s .user) ≡ dc = length-map (take (dcIn s) (drop 6 s)) low ∙ m ∙ d in
         let a : at + bytesOf (packetOfWords s) ≡ at + (dc + 7) = ap (λ (n : ℕ). at + (n + 7)) u in
-        let b : packs + packsOf (packetOfWords s) ≡ packs + (2 + (dc + 3) / 4) =
-        ap (λ (n : ℕ). packs + (1 + (1 + (n + 3) / 4))) u ∙ (omega arith) in
+        let b : packs + 2 * k + packsOf (packetOfWords s) ≡ packs + (dc + 3) / 4 + 2 * (k + 1) =
+        ap (λ (n : ℕ). packs + 2 * k + (1 + (1 + (n + 3) / 4))) u ∙ (omega arith) in
         let n : length ws - at - (dcIn s + 7) ≡ length ws - (at + (dc + 7)) = omega arith in
         let t : drop (dcIn s + 7) s ≡ drop (at + (dc + 7)) ws =
         drop-drop (dcIn s + 7) at ws ∙ ap (λ (m : ℕ). drop (at + (m + 7)) ws) d in
         sym
-        (ap (addTo sys k at packs) (front-fine (length ws - at) k s (omega arith) (omega arith) fine)
-        ∙ add-also sys k at packs (packetOfWords s) (packetsIn wordRow (length ws - at - (dcIn s + 7)) (k + 1) (drop (dcIn s + 7) s))
+        (ap (addTo sys k at (packs + 2 * k)) (front-fine (length ws - at) k s (omega arith) (omega arith) fine)
+        ∙ add-also sys k at (packs + 2 * k) (packetOfWords s) (packetsIn wordRow (length ws - at - (dcIn s + 7)) (k + 1) (drop (dcIn s + 7) s))
         ∙ (λ i. addTo sys (k + 1) (a i) (b i) (packetsIn wordRow (n i) (k + 1) (t i))))
 
 -- ---- a packet and what follows it

@@ -1,6 +1,6 @@
 -- What a pass over the words of a packet finds, in the terms of the rules.
 -- Assumes nothing.
-use Prim.Native.Nat.{ℕ, zero, suc, _+_, _%_, _≤_}
+use Prim.Native.Nat.{ℕ, zero, suc, _+_, _-_, _*_, _/_, _%_, _≤_}
 use mathlib.Core.Path.{_≡_}
 use mathlib.Core.Bool.{true}
 use mathlib.Core.List.{List, [], _∷_}
@@ -18,6 +18,10 @@ passOf ws = record { words = areWords ws; sum = sum9 ws }
 -- whether each is the word of its low byte, and the sum of their low nine bits modulo 512
 abbrev pub runOf : List ℕ → Run
 runOf ws = record { words = areWords ws; sum = sum9 ws % 512 }
+
+-- the CS that holds a sum of low nine bits: `check ws` is `checkSum (sum9 ws)`
+abbrev pub checkSum : ℕ → ℕ
+checkSum n = n % 512 + 512 * (1 - n % 512 / 256)
 
 -- the words of n bytes from b on
 abbrev pub wordsFrom : ℕ → ℕ → List ℕ

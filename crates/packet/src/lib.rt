@@ -2,15 +2,19 @@
 // What each function gives is a definition of the crate rules.
 ghost use mathlib.Core.Path.{_≡_};
 ghost use Prim.Native.Nat.{_+_, _-_, _*_, _/_, _%_, _≤_, _<_};
+ghost use mathlib.Core.Bool.{false, not, _||_};
+ghost use lib.Dec.{eqb, ltb};
 ghost use lib.ListN.{length, drop};
 ghost use Rattle.rules.specs.Packet.{word, check};
 ghost use Rattle.rules.specs.Numbers.{refused};
-ghost use Rattle.rules.specs.Laying.{wordsFault, packetsOfWords, dcIn, wordsBefore, flagWord, wordAt, fromPacket, typeOf};
+ghost use Rattle.rules.specs.Laying.{isWord, flagged, wordsFault, packetsOfWords, dcIn, wordsBefore, flagWord, wordAt, fromPacket, typeOf};
 ghost use Rattle.rules.specs.Lister.{testedOf};
 ghost use Rattle.rules.specs.Demands.{Judges};
-ghost use Rattle.packet.specs.Run.{passOf, runOf, wordTable, Passed, counted, SizeOf};
+ghost use Rattle.packet.specs.Run.{passOf, runOf, checkSum, wordTable, Passed, counted, SizeOf};
 use rules::Judged;
 use rules::Tested;
+
+mod table;
 
 // Bit 8 makes the count of ones even, and bit 9 is its inverse (SMPTE 291).
 // The eight bits are folded onto one, without a table or a branch, since this is done for every word.
@@ -90,12 +94,12 @@ pub fn run_of(ws: &[u16]) -> Run
     }
 }
 
-// Bit 9 of CS is the inverse of its bit 8, which is the sum's own and no parity (document 01, "Errors that look right").
-fn check_word(sum: u16) -> u16
-    requires { ⌜ sum < 512 ⌝ }
-    ensures { λ r. ⌜ r ≡ sum + 512 * (1 - sum / 256) ⌝ }
+// CS of a sum of low nine bits, which is taken "modulo 512" here. Bit 9 of CS is the inverse of its bit 8, which is the sum's own and no parity
+// (document 01, "Errors that look right").
+pub fn check_sum(sum: u32) -> u16
+    ensures { λ r. ⌜ r ≡ checkSum sum ⌝ }
 {
-    (sum + 256) % 512 + 256
+    ((sum % 512 + 256) % 512 + 256) as u16
 }
 
 // CS of the words from DID to the last user word. DID and SDID are summed apart: DC alone is then left to the loop of a packet without user
@@ -104,24 +108,19 @@ pub fn check_of(ws: &[u16]) -> u16
     ensures { λ r. ⌜ r ≡ check (now (ws .entry)) ⌝ }
 {
     if ws.len() < 2 {
-        return check_word(run_of(ws).sum);
+        return check_sum(run_of(ws).sum as u32);
     }
     let ids = low_nine(ws[0]) + low_nine(ws[1]);
     let rest = run_of(&ws[2..]).sum as u32;
-    check_word(((ids + rest) % 512) as u16)
+    check_sum(ids + rest)
 }
 
-// The words of all bytes, to look a few words up in: that takes a third of the instructions of computing each.
-fn words() -> [u16; 256]
+// The words of all bytes, to look a few words up in: that takes a third of the instructions of computing each. It is a constant, since a frame
+// of small packets would take longer to make it than to use it.
+pub fn words() -> [u16; 256]
     ensures { λ r. ⌜ r ≡ wordTable ⌝ }
 {
-    let mut table = [0u16; 256];
-    let mut b: u16 = 0;
-    while b < 256 {
-        table[b as usize] = with_parity(b);
-        b += 1;
-    }
-    table
+    table::WORDS
 }
 
 // "the low eight bits of each word" (document 01): what a DANC packet, an element's sample and a row of the lister have of it.
@@ -138,6 +137,13 @@ pub fn low_byte(w: u16) -> usize
     (w % 256) as usize
 }
 
+// Whether a word is that of its low byte, by the table: with any other table the answer says nothing.
+fn is_word(table: &[u16; 256], w: u16) -> bool
+    ensures { λ r. ⌜ (now (table .entry) ≡ wordTable → r ≡ isWord w) ⌝ }
+{
+    w == table[low_byte(w)]
+}
+
 // The same pass for a few words, by the table. It ends at a wrong word.
 fn looked_up(table: &[u16; 256], ws: &[u16]) -> Pass
     requires { ⌜ length (now ws) ≤ 258 ⌝ }
@@ -147,10 +153,10 @@ fn looked_up(table: &[u16; 256], ws: &[u16]) -> Pass
     let mut total: u32 = 0;
     while at < ws.len() {
         let w = ws[at];
-        if w != table[low_byte(w)] {
+        if !is_word(table, w) {
             return Pass {
                 words: false,
-                sum: total,
+                sum: 0,
             };
         }
         total += low_nine(w);
@@ -206,73 +212,40 @@ fn passed(system: u64, packets: u64, bytes: u64, packs: u64) -> Tested
     }
 }
 
-// The number of the first fault of the packet that the words begin with, 0 for none, in document 01's order.
-// The whole sums of the two passes are added for CS, so that no word is summed twice. The table is lent, so that a caller with many
-// packets makes it once; with any other table the answer says nothing.
-fn fault_by(table: &[u16; 256], ws: &[u16]) -> u64
-    ensures { λ r. ⌜ (now (table .entry) ≡ wordTable → r ≡ wordsFault (now (ws .entry))) ⌝ }
+// "7 | fewer than 7 words left, or no 000h 3FFh 3FFh" (document 01): whether neither holds.
+fn is_flagged(ws: &[u16]) -> bool
+    ensures { λ r. ⌜ r ≡ not (ltb (length (now (ws .entry))) 7 || not (flagged (now (ws .entry)))) ⌝ }
 {
     if ws.len() < 7 || ws[0] != 0x000 || ws[1] != 0x3FF || ws[2] != 0x3FF {
-        return 7;
+        return false;
     }
-    let end = (ws[5] % 256) as usize + 6;
-    let head = looked_up(table, &ws[3..6]);
-    if !head.words {
-        return 8;
+    true
+}
+
+// The whole test of the packet that the words begin with, without the number of its fault: what is not carried leaves the loop over many packets
+// a register more. DID, SDID and DC are looked up one by one; the whole sums are added for CS, so that no word is summed twice. The table is
+// lent, so that a caller with many packets has it once.
+fn is_sound(table: &[u16; 256], ws: &[u16]) -> bool
+    ensures { λ r. ⌜ (now (table .entry) ≡ wordTable → r ≡ eqb (wordsFault (now (ws .entry))) 0) ⌝ }
+{
+    if !is_flagged(ws) {
+        return false;
     }
+    let did = ws[3];
+    let sdid = ws[4];
+    let dc = ws[5];
+    if !is_word(table, did) || !is_word(table, sdid) || !is_word(table, dc) {
+        return false;
+    }
+    let end = low_byte(dc) + 6;
     if ws.len() <= end {
-        return 9;
+        return false;
     }
     let user = pass_by(table, &ws[6..end]);
     if !user.words {
-        return 8;
+        return false;
     }
-    if ws[end] != check_word(((head.sum + user.sum) % 512) as u16) {
-        return 10;
-    }
-    0
-}
-
-// "Then packet by packet", "packets back to back": the first packet at fault, its word not yet looked for, or the figures of all of them.
-// "A DANC packet has as many bytes as its VANC packet has words, DC + 7." "A packet takes 2 + DC/4 packs, the quotient rounded up."
-// Many frames have no packets, and then no table is made.
-pub fn packets(system: u64, ws: &[u16]) -> Tested
-    ensures { λ r. ⌜ r ≡ testedOf system (packetsOfWords (now (ws .entry))) ⌝ }
-{
-    if ws.len() == 0 {
-        return passed(system, 0, 0, 0);
-    }
-    let table = words();
-    let mut at = 0;
-    let mut k: u64 = 0;
-    let mut packs: u64 = 0;
-    while at < ws.len() {
-        let f = fault_by(&table, &ws[at..]);
-        if f != 0 {
-            return refusal(f, k);
-        }
-        let dc = low_byte(ws[at + 5]);
-        packs += 2 + ((dc + 3) / 4) as u64;
-        at += dc + 7;
-        k += 1;
-    }
-    passed(system, k, at as u64, packs)
-}
-
-// "the first wrong flag word, else the first missing word" (document 02, A2).
-fn flag_word(ws: &[u16]) -> usize
-    ensures { λ r. ⌜ r ≡ flagWord (now (ws .entry)) ⌝ }
-{
-    if ws.len() == 0 || ws[0] != 0x000 {
-        return 0;
-    }
-    if ws.len() == 1 || ws[1] != 0x3FF {
-        return 1;
-    }
-    if ws.len() == 2 || ws[2] != 0x3FF {
-        return 2;
-    }
-    ws.len()
+    ws[end] == check_sum(low_nine(did) + low_nine(sdid) + low_nine(dc) + user.sum)
 }
 
 // The first word from DID on that is not the word of its low byte.
@@ -300,6 +273,83 @@ fn dc_of(ws: &[u16]) -> usize
     low_byte(ws[5])
 }
 
+// How many words the packet in front takes, DC + 7, as far as there are so many.
+fn size_of(ws: &[u16]) -> usize
+    ensures { λ r. ⌜ SizeOf (now (ws .entry)) r ⌝ }
+{
+    let n = dc_of(ws) + 7;
+    if ws.len() < n {
+        return ws.len();
+    }
+    n
+}
+
+// The number of the first fault of the packet that the words begin with, in document 01's order, where it has one. It is asked once, of the packet
+// that is not sound, and needs no speed: the packet's first wrong word says whether DID, SDID and DC are right, and then the user words. The
+// passes are left to `is_sound` alone, so that they become part of its code. What is left is CS.
+fn fault_of(ws: &[u16]) -> u64
+    requires { ⌜ eqb (wordsFault (now ws)) 0 ≡ false ⌝ }
+    ensures { λ r. ⌜ r ≡ wordsFault (now (ws .entry)) ⌝ }
+{
+    if !is_flagged(ws) {
+        return 7;
+    }
+    let cs = low_byte(ws[5]) + 6;
+    let n = size_of(ws);
+    let wrong = wrong_word(&ws[..n]);
+    if wrong < 6 {
+        return 8;
+    }
+    if ws.len() <= cs {
+        return 9;
+    }
+    if wrong < cs {
+        return 8;
+    }
+    10
+}
+
+// "Then packet by packet", "packets back to back": the first packet at fault, its word not yet looked for, or the figures of all of them.
+// "A DANC packet has as many bytes as its VANC packet has words, DC + 7." "A packet takes 2 + DC/4 packs, the quotient rounded up."
+// Many frames have no packets, and then no table is taken. The packet that ends the loop is behind the last word or at fault.
+pub fn packets(system: u64, ws: &[u16]) -> Tested
+    ensures { λ r. ⌜ r ≡ testedOf system (packetsOfWords (now (ws .entry))) ⌝ }
+{
+    if ws.len() == 0 {
+        return passed(system, 0, 0, 0);
+    }
+    let table = words();
+    let mut at = 0;
+    let mut k: u64 = 0;
+    let mut packs: u64 = 0;
+    while is_sound(&table, &ws[at..]) {
+        let dc = low_byte(ws[at + 5]);
+        packs += ((dc + 3) / 4) as u64;
+        at += dc + 7;
+        k += 1;
+    }
+    if at == ws.len() {
+        return passed(system, k, at as u64, packs + 2 * k);
+    }
+    refusal(fault_of(&ws[at..]), k)
+}
+
+// "the first wrong flag word, else the first missing word" (document 02, A2).
+fn flag_word(ws: &[u16]) -> usize
+    ensures { λ r. ⌜ r ≡ flagWord (now (ws .entry)) ⌝ }
+{
+    if ws.len() == 0 || ws[0] != 0x000 {
+        return 0;
+    }
+    if ws.len() == 1 || ws[1] != 0x3FF {
+        return 1;
+    }
+    if ws.len() == 2 || ws[2] != 0x3FF {
+        return 2;
+    }
+    ws.len()
+}
+
 // The word that the number of a packet's fault names. CS stands behind DC and the user words.
 fn word_at(number: u64, ws: &[u16]) -> u64
     ensures { λ r. ⌜ r ≡ wordAt number (now (ws .entry)) ⌝ }
@@ -311,17 +361,6 @@ fn word_at(number: u64, ws: &[u16]) -> u64
         10 => dc_of(ws) as u64 + 6,
         _ => 0,
     }
-}
-
-// How many words the packet in front takes, DC + 7, as far as there are so many.
-fn size_of(ws: &[u16]) -> usize
-    ensures { λ r. ⌜ SizeOf (now (ws .entry)) r ⌝ }
-{
-    let n = dc_of(ws) + 7;
-    if ws.len() < n {
-        return ws.len();
-    }
-    n
 }
 
 // The word that a refusal names among packets back to back, where its place is the packet. It is looked for only once a packet is refused, and

@@ -1,14 +1,14 @@
 -- `packet::check_of` meets its contract: CS is made of the sum that `run_of` ensures, of all words or of those behind the first two.
 -- Assumes nothing.
 use Prim.Native.Nat.{ℕ, _-_, _%_}
-use mathlib.Core.Path.{_≡_, ap}
+use mathlib.Core.Path.{_≡_, ap, _∙_}
 use mathlib.Core.List.{List}
 use native.Mathlib.Omega.{arith}
 use lib.ListN.{length, take, drop}
 use borrow.Author.Needs.{needs}
-use Rattle.rules.specs.Packet.{sum9, check}
+use Rattle.rules.specs.Packet.{sum9}
 use Rattle.packet.specs.declared.Run.{Run}
-use Rattle.packet.proofs.Laws.{sum9-ids}
+use Rattle.packet.proofs.Laws.{sum9-ids, check-of-sum}
 use Rattle.packet.proofs.check_of.Statement.{statement}
 use Rattle.packet.proofs.check_of.Tie as tie
 
@@ -25,12 +25,14 @@ sum-behind c = ap (λ (r : Run). r .sum) (c .run-of2 .ensures)
 run-of-requires : tie.Need-run-of-requires
 run-of-requires c κs = search needs
 
-check-word-requires : tie.Need-check-word-requires
-check-word-requires c κs = omega (arith, sum c)
+cast-check-sum : tie.Need-cast-check-sum
+cast-check-sum c = search needs
+
+check-sum-requires : tie.Need-check-sum-requires
+check-sum-requires c κs = search needs
 
 returns : tie.Need-returns
-unfolding check
-returns c = rw (← sum (c .before)) (c .check-word .ensures)
+returns c = c .check-sum .ensures ∙ check-of-sum _ _ (let e = sum (c .before .before) in omega arith)
 
 shared-slice-read-low-nine : tie.Need-shared-slice-read-low-nine
 shared-slice-read-low-nine c = search needs
@@ -62,30 +64,28 @@ run-of-requires-2 c κs = search needs
 cast-rest : tie.Need-cast-rest
 cast-rest c = search needs
 
-add-check-word : tie.Need-add-check-word
-add-check-word c = search needs
+add-check-sum : tie.Need-add-check-sum
+add-check-sum c = search needs
 
-cast-check-word : tie.Need-cast-check-word
-cast-check-word c = search needs
-
-check-word-requires-2 : tie.Need-check-word-requires-2
-check-word-requires-2 c κs = search needs
+check-sum-requires-2 : tie.Need-check-sum-requires-2
+check-sum-requires-2 c κs = search needs
 
 returns-2 : tie.Need-returns-2
-unfolding check
 returns-2 c =
-    let r = c .before .before in
+    let r : tie.After-run-of2 = c .before .before in
     let second = r .before .before in
     let first = second .before .before in
-    rw (← sum9-ids (given r) _ _ _ (first .before .before .if1 .left) (first .low-nine .ensures) (second .low-nine2 .ensures) (sum-behind r))
-    (c .check-word2 .ensures)
+    c .check-sum2 .ensures
+    ∙ check-of-sum _ (given r)
+    (sum9-ids (given r) _ _ _ (first .before .before .if1 .left) (first .low-nine .ensures) (second .low-nine2 .ensures) (sum-behind r))
 
 pub check-of-spec : {M : Type 1} → statement M
 check-of-spec =
     tie.close
     (tie.spec
     run-of-requires
-    check-word-requires
+    cast-check-sum
+    check-sum-requires
     returns
     shared-slice-read-low-nine
     low-nine-requires
@@ -97,7 +97,6 @@ check-of-spec =
     part-run-of-end
     run-of-requires-2
     cast-rest
-    add-check-word
-    cast-check-word
-    check-word-requires-2
+    add-check-sum
+    check-sum-requires-2
     returns-2)

@@ -6,6 +6,7 @@ use mathlib.Core.Bool.{true}
 use native.Mathlib.Omega.{arith}
 use lib.ListN.{length, drop}
 use borrow.Author.Needs.{needs}
+use borrow.Author.Tests.{not-true, not-false}
 use Rattle.rules.specs.Packet.{sum9}
 use Rattle.rules.specs.Laying.{areWords}
 use Rattle.rules.proofs.Basics.{never}
@@ -30,24 +31,17 @@ mul-w c = search needs
 shared-slice-read-w : tie.Need-shared-slice-read-w Inv-loop μ-loop
 shared-slice-read-w c = search needs
 
-low-byte-requires : tie.Need-low-byte-requires Inv-loop μ-loop
-low-byte-requires c κs = search needs
-
-mul-if1 : tie.Need-mul-if1 Inv-loop μ-loop
-mul-if1 c = search needs
-
-element-copy-out-if1 : tie.Need-element-copy-out-if1 Inv-loop μ-loop
-element-copy-out-if1 c = search needs
+is-word-requires : tie.Need-is-word-requires Inv-loop μ-loop
+is-word-requires c κs = search needs
 
 returns : tie.Need-returns Inv-loop μ-loop
 returns c =
-    let p = c .before .before in
-    let more = p .before .before .loop-test .taken in
+    let p = c .before in
     let d = p .before .before .before in
-    let a = d .before .before .args in
+    let wrong = not-true _ (c .if1 .taken) in
     record {
       words = λ h.
-          sym (looked-wrong (a .table .now) (d .loop .at) _ (a .ws .now) more (p .low-byte .ensures) h (c .if1 .taken)) ∙ d .loop .inv .3 h;
+          sym (looked-wrong (d .loop .at) _ (p .before .before .loop-test .taken) (sym (p .is-word .ensures h) ∙ wrong)) ∙ d .loop .inv .3 h;
       sum = λ h. never (cc);
     }
 
@@ -65,16 +59,15 @@ loop-less c = search needs
 
 loop-again : tie.Need-loop-again Inv-loop μ-loop
 loop-again c =
-    let p = c .before .before .before in
+    let p = c .before .before in
     let more = p .before .before .loop-test .taken in
     let d = p .before .before .before in
-    let a = d .before .before .args in
-    let ws = a .ws .now in
+    let ws = d .before .before .args .ws .now in
     let i = d .loop .at in (
       omega arith,
       omega arith,
       omega (arith, sum9-next i ws more),
-      λ h. looked-right (a .table .now) i _ ws more (p .low-byte .ensures) h (c .before .if1 .left) ∙ d .loop .inv .3 h,
+      λ h. looked-right i ws more (sym (p .is-word .ensures h) ∙ not-false _ (c .before .if1 .left)) ∙ d .loop .inv .3 h,
     )
 
 returns-2 : tie.Need-returns-2 Inv-loop μ-loop
@@ -96,9 +89,7 @@ looked-up-spec =
     loop-holds
     mul-w
     shared-slice-read-w
-    low-byte-requires
-    mul-if1
-    element-copy-out-if1
+    is-word-requires
     returns
     low-nine-requires
     add-total
