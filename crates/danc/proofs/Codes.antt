@@ -2,7 +2,7 @@
 --
 -- In order: the packet limit; a refusal's number made; a number taken apart; one packet more in front.
 -- Assumes nothing.
-use Prim.Native.Nat.{ℕ, _+_, _-_, _/_, _%_, _≤_, _<_}
+use Prim.Native.Nat.{ℕ, _+_, _-_, _*_, _/_, _%_, _≤_, _<_}
 use mathlib.Core.Path.{_≡_, refl}
 use mathlib.Core.List.{List}
 use native.Mathlib.Omega.{arith}
@@ -21,6 +21,10 @@ limit-below = omega arith
 -- what `refusal` answers is the refusal's number, where both parts have room
 pub refusal-code : (r n i : ℕ) → r ≡ codeOf 0 0 (refused (n % base) (i % base)) → n < base → i < base → r ≡ codeOf 0 0 (refused n i)
 refusal-code r n i e h k = omega arith
+
+-- a place and a packet taken apart
+pub two-parts : (at k : ℕ) → k < base → ((k + base * at) / base ≡ at) × ((k + base * at) % base ≡ k)
+two-parts at k h = (omega arith, omega arith)
 
 -- a number taken apart
 module _ (code : ℕ) where

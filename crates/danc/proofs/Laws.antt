@@ -3,27 +3,29 @@
 -- In order: the header as it is written; the sum of bytes; a packet's faults; a step of the walker.
 -- Assumes nothing.
 use Prim.Native.Nat.{ℕ, suc, _+_, _-_, _*_, _/_, _%_, _≤_, _<_}
-use mathlib.Core.Path.{_≡_, refl, sym, ap₂, _∙_}
+use mathlib.Core.Path.{_≡_, refl, sym, ap, ap₂, _∙_}
 use mathlib.Core.Bool.{Bool, true, false, cond, not, _||_}
-use mathlib.Core.List.{List, [], _∷_, map}
+use mathlib.Core.List.{List, [], _∷_, _++_, map}
 use native.Mathlib.Omega.{arith}
 use lib.Dec.{eqb, ltb}
-use lib.ListN.{length, getD, take, drop, length-drop, length-take}
+use lib.ListN.{length, getD, take, drop, replicate, length-drop, length-take, replicate-append-replicate}
 use lib.Seq.{length-take-le, getD-take, getD-drop}
 use borrow.Author.Tests.{ltb-false, eqb-true, lt-ltb, le-ltb, eq-eqb, ne-eqb, le-leb, lt-leb}
-use Rattle.rules.specs.Base.{sum}
+use Rattle.rules.specs.Base.{allIs, sum}
 use Rattle.rules.specs.Systems.{System, system, stands, allowed}
 use Rattle.rules.specs.Packet.{Packet, parity, word, sum9, check, coded, checkOf}
 use Rattle.rules.specs.Danc.{written, header}
 use Rattle.rules.specs.Reading.{lineIn, lineOf, packetOfBytes, bytesFault, stringFault}
 use Rattle.rules.specs.Walker.{step, walk}
-use Rattle.rules.proofs.Basics.{rest-part}
-use Rattle.rules.proofs.Lines.{allowed-none}
+use Rattle.rules.proofs.Basics.{chosen, fill-allIs, rest-part}
+use Rattle.rules.proofs.Lines.{allowed-none, allowed-last}
 use Rattle.rules.proofs.Walker.{step-end as ended}
 use Rattle.frame.specs.Systems.{figuresOf}
+use Rattle.frame.specs.Lines.{isIn, linesOf}
 use Rattle.frame.specs.declared.Figures.{Figures}
 use Rattle.frame.proofs.Laws.{is-unknown, is-known}
-use Rattle.danc.specs.Header.{lineNumber}
+use Rattle.frame.proofs.Vanc.{in-lines}
+use Rattle.danc.specs.Header.{csRight, lineNumber}
 
 -- ---- the header as it is written
 
@@ -97,6 +99,13 @@ module _ (y : System) (last : ℕ) (e : y .last ≡ last) (h0 h1 : ℕ) where
         go true = refl
         go false = refl
 
+-- a line that is found among the frame's; eleven bits hold it
+pub line-found : (y : System) (h0 h1 : ℕ) → 128 ≤ h0 → isIn (linesOf (y .last)) (lineOf h0 h1) ≡ true → 0 ≡ lineNumber y h0 h1
+line-found y h0 h1 l e =
+    let small = chosen (λ (n : ℕ). n < 2048) (ltb h0 128) 0 (lineIn h0 h1) (omega arith) (omega arith) in
+    let w = in-lines y (lineOf h0 h1) small e in
+    line-in y (y .last) refl h0 h1 l (λ z. omega arith) (allowed-last y (lineOf h0 h1) (w .1)) true (sym (w .1))
+
 -- the bytes from DID to the last user byte have the sum that CS is of, DID and SDID apart
 part-sum : (s : List ℕ) → getD s 5 0 + 7 ≤ length s
     → checkOf (packetOfBytes s) % 256 ≡ (getD s 3 0 + getD s 4 0 + sum (take (getD s 5 0 + 6 - 5) (drop 5 s))) % 256
@@ -113,19 +122,37 @@ part-sum (a ∷ b ∷ c ∷ d ∷ e ∷ n ∷ t) h =
     let z = check-sum (d ∷ e ∷ n ∷ take n t) in
     rw (k, l) (z ∙ (omega arith))
 
--- the tests of a packet, from what the code holds: DC, the byte where CS is, the sum
-module _ (y : System) (s : List ℕ) (fit : getD s 5 0 + 7 ≤ length s) (dc total : ℕ) (d : dc ≡ getD s 5 0)
-    (e : total ≡ (getD s 3 0 + getD s 4 0 + sum (take (dc + 6 - 5) (drop 5 s))) % 256) where
-  same-check : eqb (getD s (getD s 5 0 + 6) 0) (checkOf (packetOfBytes s) % 256) ≡ eqb (getD s (dc + 6) 0) total
-  same-check = rw (part-sum s fit, ← d, e)
+-- the test of CS, from what the code holds: DC and the sum
+pub cs-tested : (s : List ℕ) → getD s 5 0 + 7 ≤ length s → (dc total : ℕ) → dc ≡ getD s 5 0
+    → total ≡ (getD s 3 0 + getD s 4 0 + sum (take (dc + 6 - 5) (drop 5 s))) % 256 → eqb (getD s (dc + 6) 0) total ≡ csRight s
+cs-tested s fit dc total d e = rw (part-sum s fit, ← d, e)
 
-  pub check-wrong : (getD s (dc + 6) 0 ≡ total → ⊥) → 15 ≡ bytesFault y s
+-- the tests of a packet by that of CS
+module _ (y : System) (s : List ℕ) where
+  pub cs-wrong : csRight s ≡ false → 15 ≡ bytesFault y s
   unfolding bytesFault
-  check-wrong h = rw (same-check, ne-eqb (getD s (dc + 6) 0) total h)
+  cs-wrong e = rw e
 
-  pub check-right : getD s (dc + 6) 0 ≡ total → lineNumber y (getD s 0 0) (getD s 1 0) ≡ bytesFault y s
+  pub cs-right : csRight s ≡ true → lineNumber y (getD s 0 0) (getD s 1 0) ≡ bytesFault y s
   unfolding bytesFault
-  check-right h = rw (same-check, eq-eqb (getD s (dc + 6) 0) total h)
+  cs-right e = rw e
+
+-- bytes that are all FFh are no packet: CS would be FEh
+filled : (t : List ℕ) → csRight (replicate 262 0xFF ++ t) ≡ false
+unfolding parity word check coded checkOf
+filled t = refl
+
+pub not-fill : (y : System) (s : List ℕ) → 262 ≤ length s → bytesFault y s ≡ 0 → allIs 0xFF s ≡ false
+not-fill y s long z = go (allIs 0xFF s) refl
+  where
+    go : (t : Bool) → allIs 0xFF s ≡ t → t ≡ false
+    go true e =
+        let n : 262 + (length s - 262) ≡ length s = omega arith in
+        let f : s ≡ replicate 262 0xFF ++ replicate (length s - 262) 0xFF =
+        fill-allIs 0xFF s e ∙ ap (λ (m : ℕ). replicate m 0xFF) (sym n) ∙ sym (replicate-append-replicate 262 (length s - 262) 0xFF) in
+        let w = cs-wrong y s (ap csRight f ∙ filled (replicate (length s - 262) 0xFF)) in
+        absurd (omega arith)
+    go false e = refl
 
 -- "fewer than 7 or fewer than DC + 7 bytes remain"
 pub too-few : (y : System) (s : List ℕ) → length s < 7 → 14 ≡ stringFault y s
@@ -168,6 +195,16 @@ run-room y us end at n w z =
     let l = length-take (end - at) (drop at us) in
     let g = getD-take (end - at) (drop at us) 5 0 (omega arith) in
     let h = getD-drop at us 5 0 in
+    omega arith
+
+-- and the other way: a packet that is all there is all in the part
+pub part-whole : (us : List ℕ) (end at : ℕ) → at + (getD us (at + 5) 0 + 7) ≤ end → end ≤ length us
+    → getD (take (end - at) (drop at us)) 5 0 + 7 ≤ length (take (end - at) (drop at us))
+part-whole us end at h w =
+    let d = length-drop at us in
+    let l = length-take-le (end - at) (drop at us) (omega arith) in
+    let g = getD-take (end - at) (drop at us) 5 0 (omega arith) in
+    let e = getD-drop at us 5 0 in
     omega arith
 
 -- ---- a step of the walker

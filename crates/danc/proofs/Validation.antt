@@ -1,28 +1,29 @@
 -- The validation of a string, one packet at a time.
 --
--- In order: the numbers of faults; the end; 5; a fault; one packet more.
+-- In order: the numbers of faults; the end; 5; a fault; one packet more; a run of packets without a fault; one packet alone.
 -- Assumes nothing.
-use Prim.Native.Nat.{ℕ, zero, suc, _+_, _-_, _*_, _≤_, _<_}
-use mathlib.Core.Path.{_≡_, sym, ap, _∙_}
-use mathlib.Core.Bool.{true, false, cond}
+use Prim.Native.Nat.{ℕ, zero, suc, _+_, _-_, _*_, _/_, _%_, _≤_, _<_}
+use mathlib.Core.Path.{_≡_, refl, sym, ap, _∙_}
+use mathlib.Core.Bool.{Bool, true, false, cond}
 use mathlib.Core.List.{List}
 use native.Mathlib.Omega.{arith}
 use native.Mathlib.Numerals.{add-one}
-use lib.Dec.{eqb}
+use lib.Dec.{eqb, ltb}
 use lib.ListN.{length, getD, take, drop, length-drop}
 use lib.Seq.{length-take-le, getD-take, getD-drop, drop-drop}
-use borrow.Author.Tests.{ne-eqb}
+use borrow.Author.Tests.{eqb-true, eqb-false, ne-eqb, le-ltb}
+use Rattle.rules.specs.Base.{allIs}
 use Rattle.rules.specs.Systems.{System}
 use Rattle.rules.specs.Danc.{bytesOf}
 use Rattle.rules.specs.Sheet.{limit}
 use Rattle.rules.specs.Numbers.{refused, also, packetsIn}
-use Rattle.rules.specs.Reading.{packetOfBytes, stringFault, stringEnds, stringRow}
-use Rattle.danc.specs.Code.{base, codeOf}
-use Rattle.danc.specs.Validated.{validated}
-use Rattle.rules.proofs.Basics.{drop-take}
+use Rattle.rules.specs.Reading.{packetOfBytes, bytesFault, stringFault, stringEnds, stringRow}
+use Rattle.danc.specs.Code.{base, refusedFrom, codeOf}
+use Rattle.danc.specs.Validated.{Within, validated, judgedAs}
+use Rattle.rules.proofs.Basics.{second-false, drop-take}
 use Rattle.rules.proofs.Strings.{string-faults}
-use Rattle.danc.proofs.Laws.{fault-room, run-room}
-use Rattle.danc.proofs.Codes.{code-also}
+use Rattle.danc.proofs.Laws.{not-fill, fault-bytes, fault-room, run-room, part-whole}
+use Rattle.danc.proofs.Codes.{limit-below, two-parts, code-also}
 
 -- no fault has a number over 20
 pub fault-small : (y : System) (s : List ℕ) → stringFault y s ≤ 20
@@ -100,3 +101,83 @@ module _ (y : System) (room : ℕ) (us : List ℕ) (end at k : ℕ) where
         pub at-next : validated y room (take end us) (at + (dc + 7)) (k + 1) ≡ validated y room (take end us) at k
         unfolding validated
         at-next = rw (one-packet, f, code-also at k (packetOfBytes rest), size-at, dc-at, drop-drop (dc + 7) at (take end us))
+
+-- a place and a packet as one number, taken apart again
+module _ {end at k : ℕ} (w : Within end at k) where
+  parts : ((k + base * at) / base ≡ at) × ((k + base * at) % base ≡ k)
+  parts = let l = limit-below in two-parts at k (omega (arith, w .packet))
+
+  pub here-within : Within end ((k + base * at) / base) ((k + base * at) % base)
+  here-within = rw (parts .0, parts .1) w
+
+  pub here-same : (y : System) (room : ℕ) (s : List ℕ) → validated y room s ((k + base * at) / base) ((k + base * at) % base) ≡ validated y room s at k
+  here-same y room s = rw (parts .0, parts .1)
+
+-- a packet without a fault in a part that has room for the longest, and where the next one begins
+pub run-next : (y : System) (room : ℕ) (us : List ℕ) (end at k dc : ℕ) → at + 262 ≤ end → end ≤ length us → k < limit
+    → dc ≡ getD us (at + 5) 0 → dc < 256 → bytesFault y (take (end - at) (drop at us)) ≡ 0
+    → validated y room (take end us) (at + (dc + 7)) (k + 1) ≡ validated y room (take end us) at k
+unfolding stringEnds
+run-next y room us end at k dc inside whole few d small z =
+    let p : List ℕ = take (end - at) (drop at us) in
+    let a = length-drop at us in
+    let l : length p ≡ end - at = length-take-le (end - at) (drop at us) (omega arith) in
+    let n : stringFault y p ≡ 0 = fault-bytes y p (part-whole us end at (omega arith) whole) ∙ z in
+    at-next y room us end at k (sym (second-false (ltb (length p) room) (allIs 0xFF p) (not-fill y p (omega arith) z))) (omega arith) (λ e. omega arith) 0
+    (sym n) refl dc d
+
+-- one packet alone, in a part that it fills
+module _ (y : System) (us : List ℕ) (end at k : ℕ) (fit : at + (getD us (at + 5) 0 + 7) ≡ end) (short : end ≤ 9360) (whole : length us ≡ 9360) where
+  abbrev alone : List ℕ
+  alone = take (end - at) (drop at us)
+
+  pub judged-sound : bytesFault y alone ≡ 0 → 0 ≡ judgedAs y alone k
+  unfolding judgedAs
+  judged-sound z = rw z
+
+  judged-fault : (bytesFault y alone ≡ 0 → ⊥) → codeOf 0 0 (refused (bytesFault y alone) k) ≡ judgedAs y alone k
+  unfolding judgedAs
+  judged-fault h = rw (ne-eqb (bytesFault y alone) 0 h)
+
+  -- what the validation of a string that ends there answers
+  module _ (few : k < limit) (code : ℕ) (v : code ≡ validated y 1 (take end us) at k) where
+    not-yet : false ≡ stringEnds 1 alone
+    unfolding stringEnds
+    not-yet =
+        let d = length-drop at us in
+        let l : length alone ≡ end - at = length-take-le (end - at) (drop at us) (omega arith) in
+        rw (le-ltb (length alone) 1 (omega arith))
+
+    bytes-are : bytesFault y alone ≡ stringFault y alone
+    bytes-are = sym (fault-bytes y alone (part-whole us end at (omega arith) (omega arith)))
+
+    code-none : bytesFault y alone ≡ 0 → code ≡ k + 1 + base * end
+    unfolding stringEnds
+    code-none z =
+        let e : end - end ≡ 0 = omega arith in
+        let ends : true ≡ stringEnds 1 (take (end - end) (drop end us)) = rw e in
+        let n : validated y 1 (take end us) end (k + 1) ≡ validated y 1 (take end us) at k =
+        rw fit at (at-next y 1 us end at k not-yet (omega arith) (λ q. omega arith) (bytesFault y alone) bytes-are z (getD us (at + 5) 0) refl) in
+        v ∙ sym n ∙ sym (at-end y 1 us end end (k + 1) ends)
+
+    code-fault : (bytesFault y alone ≡ 0 → ⊥) → code ≡ codeOf 0 0 (refused (bytesFault y alone) k)
+    code-fault h = v ∙ sym (at-fault y 1 us end at k not-yet (omega arith) (λ q. omega arith) (bytesFault y alone) bytes-are h)
+
+    pub judged-below : code < refusedFrom → 0 ≡ judgedAs y alone k
+    judged-below l = go (eqb (bytesFault y alone) 0) refl
+      where
+        go : (t : Bool) → eqb (bytesFault y alone) 0 ≡ t → 0 ≡ judgedAs y alone k
+        go true e = judged-sound (eqb-true (bytesFault y alone) 0 e)
+        go false e = let c = code-fault (eqb-false (bytesFault y alone) 0 e) in absurd (omega arith)
+
+    pub judged-above : refusedFrom ≤ code → code ≡ judgedAs y alone k
+    judged-above l = go (eqb (bytesFault y alone) 0) refl
+      where
+        go : (t : Bool) → eqb (bytesFault y alone) 0 ≡ t → code ≡ judgedAs y alone k
+        go true e =
+            let c = code-none (eqb-true (bytesFault y alone) 0 e) in
+            let m = limit-below in
+            absurd (omega arith)
+        go false e =
+            let h = eqb-false (bytesFault y alone) 0 e in
+            code-fault h ∙ judged-fault h

@@ -1,10 +1,18 @@
--- The line that header bytes show, under its own type, and the tests of it.
+-- What is asked of a packet's bytes, from header byte 0 on: whether CS is right; the line that they show, under its own type, and the tests of it.
 -- Assumes nothing.
-use Prim.Native.Nat.{ℕ}
-use mathlib.Core.Bool.{cond, not}
+use Prim.Native.Nat.{ℕ, _+_, _%_}
+use mathlib.Core.Bool.{Bool, cond, not}
+use mathlib.Core.List.{List}
+use lib.Dec.{eqb}
+use lib.ListN.{getD}
 use Rattle.rules.specs.Systems.{System, allowed}
-use Rattle.rules.specs.Reading.{lineOf, lineFault}
+use Rattle.rules.specs.Packet.{checkOf}
+use Rattle.rules.specs.Reading.{packetOfBytes, lineOf, lineFault}
 use Rattle.frame.specs.declared.Line.{Line}
+
+-- "stored CS byte is .. the sum's low byte"
+abbrev pub csRight : List ℕ → Bool
+csRight s = eqb (getD s (getD s 5 0 + 6) 0) (checkOf (packetOfBytes s) % 256)
 
 -- "a reader disregards line bits when LE is 0"
 abbrev pub lineRead : ℕ → ℕ → Line

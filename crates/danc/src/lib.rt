@@ -4,22 +4,26 @@ use frame::LIMIT;
 use frame::Line;
 use frame::StringByte;
 use frame::figures_of;
+use frame::is_in;
+use frame::lines_of;
 use frame::may_stand;
 use frame::wide;
 use rules::Step;
 ghost use mathlib.Core.Path.{_≡_};
-ghost use mathlib.Core.Bool.{cond};
-ghost use Prim.Native.Nat.{_+_, _*_, _/_, _%_, _≤_, _<_};
+ghost use mathlib.Core.Bool.{true, cond};
+ghost use Prim.Native.Nat.{ℕ, _+_, _-_, _*_, _/_, _%_, _≤_, _<_};
 ghost use lib.Dec.{eqb};
-ghost use lib.ListN.{length, getD, take};
+ghost use lib.ListN.{length, getD, take, drop};
 ghost use Rattle.rules.specs.Base.{allIs, sum};
 ghost use Rattle.rules.specs.Systems.{System};
+ghost use Rattle.rules.specs.Sheet.{limit};
 ghost use Rattle.rules.specs.Numbers.{refused};
 ghost use Rattle.rules.specs.Reading.{flagsOf, bytesFault, stringFault, stringEnds};
 ghost use Rattle.rules.specs.Walker.{step, walk as walked};
-ghost use Rattle.danc.specs.Header.{lineRead, lineNumber};
+ghost use Rattle.frame.specs.Lines.{linesOf};
+ghost use Rattle.danc.specs.Header.{csRight, lineRead, lineNumber};
 ghost use Rattle.danc.specs.Code.{base, codeOf};
-ghost use Rattle.danc.specs.Validated.{Within, validated};
+ghost use Rattle.danc.specs.Validated.{Within, Stop, validated, judgedAs};
 
 // Header byte 0 (001, figure 6). "LE is 1 where there is a line."
 pub fn head0(line: Line) -> u8
@@ -87,19 +91,43 @@ fn sum_onto(begun: u32, s: &[u8]) -> u8
     (sum % 256) as u8
 }
 
-// "15 | stored CS byte is not the sum's low byte", then 16, 20, of bytes from header byte 0 to CS; 0 for none. DID and SDID are summed apart:
-// DC alone is then left to the loop of a packet without user bytes, and 256 bytes of the longest, which vectors sum without a rest.
-fn packet_fault(last: Line, s: &[u8]) -> u64
+// "15 | stored CS byte is not the sum's low byte": whether it is, of bytes from header byte 0 to CS. DID and SDID are summed apart: DC alone
+// is then left to the loop of a packet without user bytes, and 256 bytes of the longest, which vectors sum without a rest.
+fn is_cs_right(s: &[u8]) -> bool
     requires { ⌜ getD (now s) 5 0 + 7 ≤ length (now s) ⌝ }
-    ensures { λ r. ⌜ ((y : System) → y .last ≡ last .0 → r ≡ bytesFault y (now (s .entry))) ⌝ }
+    ensures { λ r. ⌜ r ≡ csRight (now (s .entry)) ⌝ }
 {
     let end = wide(s[5]) + 6;
     let ids = s[3] as u32 + s[4] as u32;
     let sum = sum_onto(ids, &s[5..end]);
-    if s[end] != sum {
+    s[end] == sum
+}
+
+// 15, then 16, 20, of the same bytes; 0 for none.
+fn packet_fault(last: Line, s: &[u8]) -> u64
+    requires { ⌜ getD (now s) 5 0 + 7 ≤ length (now s) ⌝ }
+    ensures { λ r. ⌜ ((y : System) → y .last ≡ last .0 → r ≡ bytesFault y (now (s .entry))) ⌝ }
+{
+    if !is_cs_right(s) {
         return 15;
     }
     line_fault(last, s[0], s[1])
+}
+
+// Whether the same bytes have no fault, told with fewer tests: their line is looked for among the frame's. A frame that has no table has none
+// there, so a no says nothing.
+fn is_sound(lines: &[u64; 32], s: &[u8]) -> bool
+    requires { ⌜ getD (now s) 5 0 + 7 ≤ length (now s) ⌝ }
+    ensures { λ r. ⌜ ((y : System) → now (lines .entry) ≡ linesOf (y .last) → r ≡ true → bytesFault y (now (s .entry)) ≡ 0) ⌝ }
+{
+    if !is_cs_right(s) {
+        return false;
+    }
+    let h0 = s[0];
+    if h0 < 128 {
+        return true;
+    }
+    is_in(lines, line_of(h0, s[1]))
 }
 
 // "14 is given if fewer than 7 or fewer than DC + 7 bytes remain", then 15, 16, 20, of the packet at the front; 0 for none.
@@ -211,6 +239,49 @@ fn packets_from(last: Line, room: usize, us: &[u8; 9360], end: usize, at: usize,
     packets_from(last, room, us, end, at + size, k + 1)
 }
 
+// Up to where a packet that begins is surely within the string, since the longest has 262 bytes, and surely not one too many, since the
+// shortest has 7.
+fn stop_of(end: usize, at: usize, k: usize) -> usize
+    requires { ⌜ Within end at k ⌝ }
+    ensures { λ r. ⌜ Stop end at k r ⌝ }
+{
+    if end < 261 {
+        return 0;
+    }
+    let most = at + 7 * (LIMIT - k);
+    if most < end - 261 {
+        return most;
+    }
+    end - 261
+}
+
+// The packets in front that have no fault, as long as they begin before `stop`, where neither the end nor 5 nor 14 has to be tested: how many
+// with those before them, and `BASE` times the place where the last ends. From there on the string gives the same answer.
+fn sound_run(
+    lines: &[u64; 32],
+    us: &[u8; 9360],
+    end: usize,
+    stop: usize,
+    at: usize,
+    k: usize,
+) -> usize
+    requires { ⌜ Within end at k × Stop end at k stop ⌝ }
+    ensures { λ r. ⌜ Within end (r / base) (r % base) ⌝ }
+    ensures { λ r. ⌜ ((y : System) → now (lines .entry) ≡ linesOf (y .last) → (room : ℕ)
+        → validated y room (take end (now (us .entry))) (r / base) (r % base) ≡ validated y room (take end (now (us .entry))) at k) ⌝ }
+{
+    let here = k + BASE * at;
+    if stop <= at {
+        return here;
+    }
+    let size = wide(us[at + 5]) + 7;
+    let s = &us[..];
+    if !is_sound(lines, &s[at..end]) {
+        return here;
+    }
+    sound_run(lines, us, end, stop, at + size, k + 1)
+}
+
 // The string that ends at `end`, from place `at` on, where packet k begins: the packets with those before it, and `BASE` times the place
 // where the last ends; or from `REFUSED` on a refusal. Out of the bounds of a frame nothing is read, so that no sum can wrap.
 pub fn validate(last: Line, room: usize, us: &[u8; 9360], end: usize, at: usize, k: usize) -> usize
@@ -227,5 +298,32 @@ pub fn validate(last: Line, room: usize, us: &[u8; 9360], end: usize, at: usize,
     if LIMIT < k {
         return REFUSED;
     }
-    packets_from(last, room, us, end, at, k)
+    let lines = lines_of(last);
+    let run = sound_run(&lines, us, end, stop_of(end, at, k), at, k);
+    packets_from(last, room, us, end, run / BASE, run % BASE)
+}
+
+// The whole packet from `at` to `end` that is packet k: 0 where it has no fault, else its refusal. What is refused is told by the validation of
+// a string that ends there; with room for one byte the string ends where nothing remains.
+pub fn judged(
+    lines: &[u64; 32],
+    last: Line,
+    us: &[u8; 9360],
+    end: usize,
+    at: usize,
+    k: usize,
+) -> usize
+    requires { ⌜ (at + (getD (now us) (at + 5) 0 + 7) ≡ end) × (end ≤ 9360) ⌝ }
+    ensures { λ r. ⌜ ((y : System) → y .last ≡ last .0 → now (lines .entry) ≡ linesOf (last .0) → k < limit
+        → r ≡ judgedAs y (take (end - at) (drop at (now (us .entry)))) k) ⌝ }
+{
+    let s = &us[..];
+    if is_sound(lines, &s[at..end]) {
+        return 0;
+    }
+    let code = validate(last, 1, us, end, at, k);
+    if code < REFUSED {
+        return 0;
+    }
+    code
 }

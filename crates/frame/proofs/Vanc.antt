@@ -1,15 +1,18 @@
 -- The lines on which a packet may stand, one run of lines at a time.
 --
--- In order: no line, and the others; 1080; 720; any frame.
+-- In order: no line, and the others; 1080; 720; any frame; lines as bits.
 -- Assumes nothing.
-use Prim.Native.Nat.{ℕ, _≤_, _<_}
+use Prim.Native.Nat.{ℕ, zero, suc, _≤_, _<_}
 use mathlib.Core.Path.{_≡_, refl, sym, ap, _∙_}
-use mathlib.Core.Bool.{Bool, true, false, not, _&&_, _||_}
+use mathlib.Core.Bool.{Bool, true, false, cond, not, _&&_, _||_}
+use mathlib.Core.List.{List}
 use native.Mathlib.Omega.{arith}
 use lib.Dec.{eqb, leb}
 use borrow.Author.Tests.{eqb-true, eqb-false, leb-true, leb-false, ne-eqb, le-leb, lt-leb}
 use Rattle.rules.specs.Systems.{System, stands, vanc1080, vanc720, among, isVanc, vancLine, allowed}
+use Rattle.rules.proofs.Basics.{never, both}
 use Rattle.rules.proofs.Lines.{allowed-none}
+use Rattle.frame.specs.Lines.{isIn, noLines, lines1080, lines720, linesOf}
 
 -- ---- no line, and the others
 
@@ -151,3 +154,46 @@ module _ (y : System) (last : ℕ) (is : y .last ≡ last) (line : ℕ) where
   -- a frame that has no table
   pub any-line : (last ≡ 1125 → ⊥) → (last ≡ 750 → ⊥) → line ≤ last → true ≡ allowed y line
   any-line m n l = by-table y line true (omega arith) (λ z. refl) (λ k. rw (is, ne-eqb last 1125 m, ne-eqb last 750 n))
+
+-- ---- lines as bits
+
+-- a test holds of every number below n
+abbrev allBelow : ℕ → (ℕ → Bool) → Bool
+allBelow zero test = true
+allBelow (suc n) test = test n && allBelow n test
+
+each-below : (n : ℕ) (test : ℕ → Bool) → allBelow n test ≡ true → (i : ℕ) → i < n → test i ≡ true
+each-below zero test e i h = absurd (omega arith)
+each-below (suc n) test e i h = go (eqb i n) refl (each-below n test (both (test n) (allBelow n test) e .1) i)
+  where
+    go : (t : Bool) → eqb i n ≡ t → (i < n → test i ≡ true) → test i ≡ true
+    go true q ih = rw (eqb-true i n q) (both (test n) (allBelow n test) e .0)
+    go false q ih = let k = eqb-false i n q in ih (omega arith)
+
+-- a line that is in them is a line of the frame, from 1 on, that the table allows
+abbrev fits : ℕ → List ℕ → ℕ → Bool
+fits last lines line = not (isIn lines line) || (leb 1 line && (leb line last && vancLine last line))
+
+module _ (y : System) (line : ℕ) (small : line < 2048) where
+  -- a line of a frame whose lines fit
+  of-fits : (lines : List ℕ) → allBelow 2048 (fits (y .last) lines) ≡ true → isIn lines line ≡ true → (1 ≤ line) × (allowed y line ≡ true)
+  unfolding allowed stands
+  of-fits lines all e = go (isIn lines line) e (each-below 2048 (fits (y .last) lines) all line small)
+    where
+      go : (t : Bool) → t ≡ true → (not t || (leb 1 line && (leb line (y .last) && vancLine (y .last) line))) ≡ true
+          → (1 ≤ line) × (allowed y line ≡ true)
+      go true q w =
+          let v = both (leb 1 line) (leb line (y .last) && vancLine (y .last) line) w in
+          let n : 1 ≤ line = leb-true 1 line (v .0) in
+          (n, rw (ne-eqb line 0 (λ z. omega arith)) (v .1))
+      go false q w = never (cc)
+
+  pub in-lines : isIn (linesOf (y .last)) line ≡ true → (1 ≤ line) × (allowed y line ≡ true)
+  unfolding linesOf
+  in-lines = go (eqb (y .last) 1125) refl (eqb (y .last) 750) refl
+    where
+      go : (a : Bool) → eqb (y .last) 1125 ≡ a → (b : Bool) → eqb (y .last) 750 ≡ b → isIn (cond a lines1080 (cond b lines720 noLines)) line ≡ true
+          → (1 ≤ line) × (allowed y line ≡ true)
+      go true q b r e = of-fits lines1080 (rw (eqb-true (y .last) 1125 q)) e
+      go false q true r e = of-fits lines720 (rw (eqb-true (y .last) 750 r)) e
+      go false q false r e = of-fits noLines refl e

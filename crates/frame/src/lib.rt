@@ -9,6 +9,8 @@ ghost use Rattle.frame.specs.Bytes.{fitsArea, collected, bytesAfter, are
 mod blocks;
 mod lines;
 
+pub use lines::is_in;
+pub use lines::lines_of;
 pub use lines::may_stand;
 
 // "P is at most [1,275]" (document 02, A6). Here because every room that counts packets stands on this one.

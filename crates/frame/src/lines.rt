@@ -4,6 +4,7 @@ use crate::Line;
 ghost use mathlib.Core.Path.{_≡_};
 ghost use Prim.Native.Nat.{_≤_};
 ghost use Rattle.rules.specs.Systems.{System, allowed};
+ghost use Rattle.frame.specs.Lines.{linesOf, isIn};
 
 // "1124 - 1125; 1 - 20; 561 - 583" without "7 - 8; 569 - 570".
 fn may_stand_in_1080(line: u16) -> bool
@@ -56,4 +57,32 @@ pub fn may_stand(last: Line, line: Line) -> bool
         return may_stand_in_720(line.0);
     }
     true
+}
+
+// The same lines as bits, which a caller asks for once: to find a line among them takes no branch. Line n is bit n % 64 of number n / 64. Line 0
+// is not among them: where LE is 1 it is a fault.
+pub fn lines_of(last: Line) -> [u64; 32]
+    ensures { λ r. ⌜ r ≡ linesOf (last .0) ⌝ }
+{
+    let mut lines = [0u64; 32];
+    if last.0 == 1125 {
+        lines[0] = 0x1FFE7E;
+        lines[8] = 0xF9FE000000000000;
+        lines[9] = 0xFF;
+        lines[17] = 0x3000000000;
+        return lines;
+    }
+    if last.0 == 750 {
+        lines[0] = 0x3FFFE7E;
+        lines[11] = 0x7C0000000000;
+        return lines;
+    }
+    lines
+}
+
+// Whether a line is among them, by its low eleven bits: a header has no more.
+pub fn is_in(lines: &[u64; 32], line: Line) -> bool
+    ensures { λ r. ⌜ r ≡ isIn (now (lines .entry)) (line .0) ⌝ }
+{
+    (lines[(line.0 / 64 % 32) as usize] >> (line.0 % 64)) % 2 == 1
 }

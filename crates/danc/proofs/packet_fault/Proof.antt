@@ -1,59 +1,16 @@
 -- `danc::packet_fault` meets its contract: CS wrong; CS right, and the test of the line.
-use mathlib.Core.Path.{_∙_}
-use native.Mathlib.Omega.{arith}
+use mathlib.Core.Path.{sym, _∙_}
 use borrow.Author.Needs.{needs}
-use Rattle.danc.proofs.Laws.{check-wrong, check-right}
+use borrow.Author.Tests.{not-true, not-false}
+use Rattle.danc.proofs.Laws.{cs-wrong, cs-right}
 use Rattle.danc.proofs.packet_fault.Statement.{statement}
 use Rattle.danc.proofs.packet_fault.Tie as tie
 
-shared-slice-read-wide : tie.Need-shared-slice-read-wide
-shared-slice-read-wide c = search needs
-
-wide-requires : tie.Need-wide-requires
-wide-requires c κs = search needs
-
-add-end : tie.Need-add-end
-add-end c = search needs
-
-shared-slice-read-ids : tie.Need-shared-slice-read-ids
-shared-slice-read-ids c = search needs
-
-cast-ids : tie.Need-cast-ids
-cast-ids c = omega (arith, c .shared-slice-known3 .given 3)
-
-shared-slice-read-ids-2 : tie.Need-shared-slice-read-ids-2
-shared-slice-read-ids-2 c = search needs
-
-cast-ids-2 : tie.Need-cast-ids-2
-cast-ids-2 c = omega (arith, c .shared-slice-known4 .given 4)
-
-add-ids : tie.Need-add-ids
-add-ids c = let a = c .shared-slice-known4 .given 3 in let b = c .shared-slice-known4 .given 4 in omega arith
-
-sub-sum-onto : tie.Need-sub-sum-onto
-sub-sum-onto c = search needs
-
-part-sum-onto-start : tie.Need-part-sum-onto-start
-part-sum-onto-start c = search needs
-
-part-sum-onto-end : tie.Need-part-sum-onto-end
-part-sum-onto-end c = search needs
-
-sum-onto-requires : tie.Need-sum-onto-requires
-sum-onto-requires c κs =
-    let d = c .before in
-    let a = d .shared-slice-known4 .given 3 in
-    let b = d .shared-slice-known4 .given 4 in
-    (omega arith, search needs)
-
-shared-slice-read-if1 : tie.Need-shared-slice-read-if1
-shared-slice-read-if1 c = search needs
+is-cs-right-requires : tie.Need-is-cs-right-requires
+is-cs-right-requires c κs = search needs
 
 returns : tie.Need-returns
-returns c y e =
-    let d = c .before .before in
-    let a = d .before .before .before .before in
-    check-wrong y _ (a .before .before .before .pre) _ _ (a .wide .ensures .0) (d .sum-onto .ensures) (c .if1 .taken)
+returns c y e = cs-wrong y _ (sym (c .before .is-cs-right .ensures) ∙ not-true _ (c .if1 .taken))
 
 shared-slice-read-line-fault : tie.Need-shared-slice-read-line-fault
 shared-slice-read-line-fault c = search needs
@@ -67,28 +24,13 @@ line-fault-requires c κs = search needs
 returns-2 : tie.Need-returns-2
 returns-2 c y e =
     let f = c .before .before .before in
-    let d = f .before .before in
-    let a = d .before .before .before .before in
-    c .line-fault .ensures y e
-    ∙ check-right y _ (a .before .before .before .pre) _ _ (a .wide .ensures .0) (d .sum-onto .ensures) (f .if1 .left)
+    c .line-fault .ensures y e ∙ cs-right y _ (sym (f .before .is-cs-right .ensures) ∙ not-false _ (f .if1 .left))
 
 pub packet-fault-spec : {M : Type 1} → statement M
 packet-fault-spec =
     tie.close
     (tie.spec
-    shared-slice-read-wide
-    wide-requires
-    add-end
-    shared-slice-read-ids
-    cast-ids
-    shared-slice-read-ids-2
-    cast-ids-2
-    add-ids
-    sub-sum-onto
-    part-sum-onto-start
-    part-sum-onto-end
-    sum-onto-requires
-    shared-slice-read-if1
+    is-cs-right-requires
     returns
     shared-slice-read-line-fault
     shared-slice-read-line-fault-2
