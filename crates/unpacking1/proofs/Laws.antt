@@ -13,7 +13,7 @@ use native.Mathlib.Numerals.{add-one, add-six, add-seven}
 use lib.Dec.{eqb, ltb, leb}
 use lib.ListN.{length, getD, take, drop, length-append, length-drop, length-map}
 use lib.Seq.{length-take-le, take-length, take-at, take-take, getD-take}
-use borrow.Author.Tests.{ltb-true, eqb-true, eqb-false, ne-eqb, lt-ltb, le-ltb, leb-true}
+use borrow.Author.Tests.{ltb-true, eqb-true, eqb-false, ne-eqb, lt-ltb, leb-true}
 use Rattle.rules.specs.Base.{allIs, All, none, one, Bytes}
 use Rattle.rules.specs.Systems.{System}
 use Rattle.rules.specs.Packet.{Packet}
@@ -21,15 +21,14 @@ use Rattle.rules.specs.Danc.{Item, Good, packetsOf, danc, string, stringBytes}
 use Rattle.rules.specs.Sheet.{limit}
 use Rattle.rules.specs.Packing1.{Five, fives, carriersFor}
 use Rattle.rules.specs.Numbers.{Outcome, listed, refused, also, unless, packetsIn}
-use Rattle.rules.specs.Reading.{packetOfBytes, bytesFault, stringFault}
+use Rattle.rules.specs.Reading.{packetOfBytes, bytesFault}
 use Rattle.rules.specs.Reading.{lead, frontBytes, carriersFit, packsFault, packsEnd, afterCarriers, packRow, inOrder}
 use Rattle.rules.proofs.Basics.{never, both, take-bytes, drop-bytes, joined-append, all-append}
 use Rattle.rules.proofs.Strings.{danc-length, itemOf, bytes-laid, string-room}
 use Rattle.rules.proofs.Packs.{lead-within}
 use Rattle.danc.specs.Code.{base, codeOf}
-use Rattle.danc.proofs.Laws.{lastOnly}
+use Rattle.danc.specs.Validated.{judgedAs}
 use Rattle.danc.proofs.Codes.{refusal-code}
-use Rattle.danc.proofs.Validation.{is-small}
 use Rattle.unpacking1.specs.Open.{packsAt, Within, used, orderFrom, fits, PacketOpened, Opens}
 use Rattle.unpacking1.specs.Open.{packetsFrom, packetsOfPacks, endCode, packetsOfFives}
 use Rattle.unpacking1.proofs.Packs.{kept-later, kept-at, kept-packs, window-front, window-at, window-part}
@@ -73,26 +72,17 @@ fault-is y (p ∷ ps) = refl
 
 -- the fault of a packet's bytes is theirs alone
 prefix-cut : (y : System) (a b c d e n : ℕ) (t : List ℕ) → suc n ≤ length t
-    → stringFault y (a ∷ b ∷ c ∷ d ∷ e ∷ n ∷ take (suc n) t) ≡ bytesFault y (a ∷ b ∷ c ∷ d ∷ e ∷ n ∷ t)
-unfolding stringFault bytesFault
-prefix-cut y a b c d e n t l =
-    let k : length (take (suc n) t) ≡ suc n = length-take-le (suc n) t l in
-    rw (
-      k,
-      le-ltb (suc (suc (suc (suc (suc (suc (suc n))))))) 7 (omega arith),
-      le-ltb (suc (suc (suc (suc (suc (suc (suc n))))))) (n + 7) (omega arith),
-      add-six n,
-      getD-take (suc n) t n 0 (omega arith),
-      take-take n (suc n) t (omega arith),
-    )
+    → bytesFault y (a ∷ b ∷ c ∷ d ∷ e ∷ n ∷ take (suc n) t) ≡ bytesFault y (a ∷ b ∷ c ∷ d ∷ e ∷ n ∷ t)
+unfolding bytesFault
+prefix-cut y a b c d e n t l = rw (add-six n, getD-take (suc n) t n 0 (omega arith), take-take n (suc n) t (omega arith))
 
 -- the same, of the bytes as `take` gives them
 prefix-whole : (y : System) (a b c d e n : ℕ) (t : List ℕ) → suc n ≤ length t
-    → stringFault y (take (n + 7) (a ∷ b ∷ c ∷ d ∷ e ∷ n ∷ t)) ≡ bytesFault y (a ∷ b ∷ c ∷ d ∷ e ∷ n ∷ t)
+    → bytesFault y (take (n + 7) (a ∷ b ∷ c ∷ d ∷ e ∷ n ∷ t)) ≡ bytesFault y (a ∷ b ∷ c ∷ d ∷ e ∷ n ∷ t)
 prefix-whole y a b c d e n t l = rw (add-seven n) (prefix-cut y a b c d e n t l)
 
 -- the same, of any bytes that are a packet long
-prefix-fault : (y : System) (s : List ℕ) → getD s 5 0 + 7 ≤ length s → stringFault y (take (getD s 5 0 + 7) s) ≡ bytesFault y s
+prefix-fault : (y : System) (s : List ℕ) → getD s 5 0 + 7 ≤ length s → bytesFault y (take (getD s 5 0 + 7) s) ≡ bytesFault y s
 prefix-fault y [] h = absurd (omega arith)
 prefix-fault y (a ∷ []) h = absurd (omega arith)
 prefix-fault y (a ∷ b ∷ []) h = absurd (omega arith)
@@ -100,6 +90,22 @@ prefix-fault y (a ∷ b ∷ c ∷ []) h = absurd (omega arith)
 prefix-fault y (a ∷ b ∷ c ∷ d ∷ []) h = absurd (omega arith)
 prefix-fault y (a ∷ b ∷ c ∷ d ∷ e ∷ []) h = absurd (omega arith)
 prefix-fault y (a ∷ b ∷ c ∷ d ∷ e ∷ n ∷ t) h = prefix-whole y a b c d e n t (omega arith)
+
+-- the code of a fault is 0 where it is none, and the number of its refusal where it is one
+module _ {c : ℕ} (f k : ℕ) (e : c ≡ cond (eqb f 0) 0 (codeOf 0 0 (refused f k))) where
+  code-none : c ≡ 0 → f ≡ 0
+  code-none z = go (eqb f 0) refl e
+    where
+      go : (t : Bool) → eqb f 0 ≡ t → c ≡ cond t 0 (codeOf 0 0 (refused f k)) → f ≡ 0
+      go true x e = eqb-true f 0 x
+      go false x e = absurd (omega arith)
+
+  code-some : (c ≡ 0 → ⊥) → (f ≡ 0 → ⊥) × (c ≡ codeOf 0 0 (refused f k))
+  code-some z = go (eqb f 0) refl e
+    where
+      go : (t : Bool) → eqb f 0 ≡ t → c ≡ cond t 0 (codeOf 0 0 (refused f k)) → (f ≡ 0 → ⊥) × (c ≡ codeOf 0 0 (refused f k))
+      go true x e = absurd (z e)
+      go false x e = (eqb-false f 0 x, e)
 
 -- ---- a packet of a row of packs
 
@@ -187,11 +193,14 @@ opening-none last us total p l =
     from-first : (y : System) → packetsFrom y (packsAt us 0 total) ≡ packetsIn (packRow y) (limit - 0) 0 (packsAt us 0 total)
     from-first y = ap (λ (n : ℕ). packetsIn (packRow y) n 0 (packsAt us 0 total)) (sym (sub-zero limit))
 
--- a refusal leaves nothing to say of the bytes. Number and packet have room in the number that `refusal` answers
+-- a refusal leaves nothing to say of the bytes
+coded-opens : {y : System} {o : Outcome} {n k r : ℕ} {us : List ℕ} → o ≡ refused n k → r ≡ codeOf 0 0 (refused n k) → Opens y o r us
+coded-opens {y} {o} {n} {k} {r} e q = record { answer = q ∙ ap (codeOf 0 0) (sym e); string = λ ps f. never (cc) }
+
+-- number and packet have room in the number that `refusal` answers
 pub refused-opens : {y : System} {o : Outcome} {n k r : ℕ} {us : List ℕ} → o ≡ refused n k → n < base → k < base
     → r ≡ codeOf 0 0 (refused (n % base) (k % base)) → Opens y o r us
-refused-opens {y} {o} {n} {k} {r} e h j q =
-    record { answer = refusal-code r n k q h j ∙ ap (codeOf 0 0) (sym e); string = λ ps f. never (cc) }
+refused-opens {y} {o} {n} {k} {r} e h j q = coded-opens e (refusal-code r n k q h j)
 
 module _ {last : ℕ} {before us : List ℕ} {total r w k : ℕ} (v : Opening last before us total r w k) where
   -- all packs, and those that are left
@@ -223,7 +232,7 @@ module _ {last : ℕ} {before us : List ℕ} {total r w k : ℕ} (v : Opening la
     left-place = order-place r (v .place) left (λ e. o (sym (v .order) ∙ e))
 
   -- no more packets than there are packs for
-  below-limit : r < total → k < limit
+  pub below-limit : r < total → k < limit
   unfolding limit
   below-limit h = let a = v .few in let b = v .packs .all in let c = v .size in omega arith
 
@@ -484,33 +493,37 @@ module _ {last : ℕ} {before us : List ℕ} {total r w k : ℕ} (v : Opening la
               let a : w + d + 7 - w ≡ size + 7 = let b = d-is in omega arith in
               ap (λ (m : ℕ). take m (drop w after)) a ∙ bytes-there (size + 7) bytes-long
 
-          -- n is the fault that was found
-          module _ {n : ℕ} (q : (y : System) → y .last ≡ last → n ≡ stringFault y (take (w + d + 7 - w) (drop w after))) where
+          -- c is the code of the fault that was found
+          module _ {c : ℕ} (q : (y : System) → y .last ≡ last → c ≡ judgedAs y (take (w + d + 7 - w) (drop w after)) k) where
             -- it is that of the bytes
-            bytes-fault : (y : System) → y .last ≡ last → bytesFault y bytes ≡ n
-            bytes-fault y f = sym (q y f ∙ ap (stringFault y) part-is ∙ prefix-fault y bytes bytes-long)
+            code-is : (y : System) → y .last ≡ last → c ≡ cond (eqb (bytesFault y bytes) 0) 0 (codeOf 0 0 (refused (bytesFault y bytes) k))
+            unfolding judgedAs
+            code-is y e =
+                q y e
+                ∙ ap (λ (f : ℕ). cond (eqb f 0) 0 (codeOf 0 0 (refused f k))) (ap (bytesFault y) part-is ∙ prefix-fault y bytes bytes-long)
 
             -- and so that of the packs
-            left-fault : (y : System) → y .last ≡ last → packsFault y left ≡ n
-            left-fault y f = fault-is y left ∙ ap (λ (b : Bool). cond b (bytesFault y bytes) 14) left-fits ∙ bytes-fault y f
+            left-fault : (y : System) → packsFault y left ≡ bytesFault y bytes
+            left-fault y = fault-is y left ∙ ap (λ (b : Bool). cond b (bytesFault y bytes) 14) left-fits
 
             -- 15, 16, 20, where the packs are in order: what `refused` answers
-            pub refused-other : (n ≡ 0 → ⊥) → n < base → {c q : ℕ} → c ≡ codeOf 0 0 (refused (n % base) (k % base))
-                → q ≡ cond (eqb (orderFrom false next (packsAt after next total)) 1) (codeOf 0 0 (refused 13 0)) c
-                → (y : System) → y .last ≡ last → {s : List ℕ} → Opens y (packetsOfPacks y packs) q s
-            refused-other m b {c} {q} f g y e {s} =
+            pub refused-other : (c ≡ 0 → ⊥) → {r : ℕ}
+                → r ≡ cond (eqb (orderFrom false next (packsAt after next total)) 1) (codeOf 0 0 (refused 13 0)) c
+                → (y : System) → y .last ≡ last → {s : List ℕ} → Opens y (packetsOfPacks y packs) r s
+            refused-other m {r} g y e {s} =
                 go (eqb (orderFrom false 0 packs) 1) refl
                 (g ∙ ap (λ (i : ℕ). cond (eqb i 1) (codeOf 0 0 (refused 13 0)) c) (ap (orderFrom false next) next-kept ∙ order-is))
               where
-                go : (t : Bool) → eqb (orderFrom false 0 packs) 1 ≡ t → q ≡ cond t (codeOf 0 0 (refused 13 0)) c
-                    → Opens y (packetsOfPacks y packs) q s
-                go true x g = refused-opens (refused-order (eqb-true (orderFrom false 0 packs) 1 x) y) (omega arith) (omega arith) g
+                go : (t : Bool) → eqb (orderFrom false 0 packs) 1 ≡ t → r ≡ cond t (codeOf 0 0 (refused 13 0)) c
+                    → Opens y (packetsOfPacks y packs) r s
+                go true x g = coded-opens (refused-order (eqb-true (orderFrom false 0 packs) 1 x) y) g
                 go false x g =
                     let o = eqb-false (orderFrom false 0 packs) 1 x in
-                    refused-opens (in-order o y (refused-fault packet-left left-goes n m y e (left-fault y e))) b below-base (g ∙ f)
+                    let f = code-some (bytesFault y bytes) k (code-is y e) m in
+                    coded-opens (in-order o y (refused-fault packet-left left-goes _ (f .0) y e (left-fault y))) (g ∙ f .1)
 
             -- without a fault they are an item's
-            module _ (fine : n ≡ 0) (known : Bytes after) where
+            module _ (fine : c ≡ 0) (known : Bytes after) where
               -- they are bytes, as all are
               bytes-known : Bytes bytes
               bytes-known =
@@ -524,7 +537,7 @@ module _ {last : ℕ} {before us : List ℕ} {total r w k : ℕ} (v : Opening la
               -- its bytes stand in front, and it is good
               item-is : (y : System) → y .last ≡ last → (take (size + 7) bytes ≡ danc item) × Good y item
               item-is y f =
-                  let l = bytes-laid y bytes 0 (omega arith) bytes-known bytes-long (bytes-fault y f ∙ fine) in
+                  let l = bytes-laid y bytes 0 (omega arith) bytes-known bytes-long (code-none (bytesFault y bytes) k (code-is y f) fine) in
                   let a : length (drop 6 bytes) ≡ length bytes - 6 = length-drop 6 bytes in
                   let b = bytes-long in
                   let c : length (take size (drop 6 bytes)) ≡ size = length-take-le size (drop 6 bytes) (omega arith) in
@@ -539,7 +552,7 @@ module _ {last : ℕ} {before us : List ℕ} {total r w k : ℕ} (v : Opening la
                   let i : w + d + 7 ≡ w + (size + 7) = let j = d-is in omega arith in
                   let m = was .many in
                   let c = length-append (was .items) (item ∷ []) in
-                  let none-found : packsFault y left ≡ 0 = left-fault y f ∙ fine in
+                  let none-found : packsFault y left ≡ 0 = left-fault y ∙ code-none (bytesFault y bytes) k (code-is y f) fine in
                   record {
                     items = was .items ++ item ∷ [];
                     good = all-append (Good y) (was .items) (item ∷ []) (was .good) (one (x .1) none);
@@ -577,10 +590,6 @@ module _ {last : ℕ} {before us : List ℕ} {total r w k : ℕ} (v : Opening la
                     kept = o .moved z .kept ∙ kept-later us before r (v .kept) next (omega arith);
                     done = done-more;
                   }
-
--- a fault's number has room in the number of a refusal
-pub fault-below : {last n : ℕ} (s : List ℕ) → ((y : System) → y .last ≡ last → n ≡ stringFault y s) → n < base
-fault-below {last} {n} s q = is-small (lastOnly last) s n (q (lastOnly last) refl)
 
 -- ---- all of it
 

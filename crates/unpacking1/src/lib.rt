@@ -249,6 +249,7 @@ fn open_packets(last: Line, us: &mut [u8; 9360], total: usize) -> usize
     requires { ⌜ Within (now us) 0 total × (length (now us) ≡ 9360) ⌝ }
     ensures { λ r. ⌜ ((y : System) → y .last ≡ last .0 → Opens y (packetsOfPacks y (packsAt (now (us .entry)) 0 total)) r (now (us .exit))) ⌝ }
 {
+    let lines = frame::lines_of(last);
     let mut r = 0;
     let mut w = 0;
     let mut k = 0;
@@ -263,9 +264,9 @@ fn open_packets(last: Line, us: &mut [u8; 9360], total: usize) -> usize
         // lent whole, which tells the proof its length, and that bytes stand there
         let s = &us[..];
         let end = w + wide(s[w + 5]) + 7;
-        let number = danc::fault(last, &s[w..end]);
-        if number != 0 {
-            return refused(us, next, total, refusal(number, k));
+        let code = danc::judged(&lines, last, us, end, w, k);
+        if code != 0 {
+            return refused(us, next, total, code);
         }
         r = next;
         w = end;

@@ -22,22 +22,22 @@ use Rattle.unpacking1.proofs.Laws.{
   size-below,
   left-falls,
   below-base,
+  below-limit,
   refused-opens,
   refused-wrong,
   refused-fourteen,
   refused-other,
-  fault-below,
 }
 use Rattle.unpacking1.proofs.open_packets.Statement.{statement}
 use Rattle.unpacking1.proofs.open_packets.Tie as tie
 
 -- what holds at each turn
 abbrev Inv-loop : tie.InvT-loop
-Inv-loop last us₀ total r₀ w₀ k₀ us r w k = Opening (last .0) us₀ us total r w k
+Inv-loop last us₀ total lines r₀ w₀ k₀ us r w k = Opening (last .0) us₀ us total r w k
 
 -- what is left
 abbrev μ-loop : tie.MeasureT-loop
-μ-loop last us₀ total r₀ w₀ k₀ us r w k = total - r
+μ-loop last us₀ total lines r₀ w₀ k₀ us r w k = total - r
 
 -- ---- what is known on the way
 
@@ -51,7 +51,7 @@ module _ (o : Opened) where
   turn = o .before .before .before .before .before
 
   -- a packet starts there
-  goes : (ltb (turn .loop .r) (turn .before .args .total) && eqb (getD (turn .loop .us) (turn .loop .r) 0) 0xE1) ≡ true
+  goes : (ltb (turn .loop .r) (turn .before .before .args .total) && eqb (getD (turn .loop .us) (turn .loop .r) 0) 0xE1) ≡ true
   goes = sym (o .before .before .before .starts .ensures) ∙ o .before .before .if1 .taken
 
 -- where neither 13 nor 14 was given
@@ -69,24 +69,27 @@ module _ (h : Whole) where
 
 -- where the packet's bytes were judged
 abbrev Judged : Type 0
-Judged = tie.After-fault Inv-loop μ-loop
+Judged = tie.After-judged Inv-loop μ-loop
 
 module _ (j : Judged) where
   -- what was known before
   abbrev whole : Whole
-  whole = j .before .before .before .before .before .before
+  whole = j .before .before .before .before .before .before .before
 
   -- there are as many bytes as at the start
   full : length (opened whole .open-packet .last .0) ≡ 9360
-  full = j .before .before .before .before .s2 .given .0
+  full = j .before .before .before .before .before .s2 .given .0
 
   after-long : length (opened whole .open-packet .last .0) ≡ length (turn (opened whole) .loop .us)
   after-long = let v = turn (opened whole) .loop .inv in full ∙ sym (v .size) ∙ sym (v .long)
 
 -- ---- the needs
 
+lines-of-requires : tie.Need-lines-of-requires Inv-loop μ-loop
+lines-of-requires c κs = search needs
+
 loop-holds : tie.Need-loop-holds Inv-loop μ-loop
-loop-holds c = opening-none _ _ _ (c .pre .0) (c .pre .1)
+loop-holds c = let p = c .before .pre in opening-none _ _ _ (p .0) (p .1)
 
 starts-requires : tie.Need-starts-requires Inv-loop μ-loop
 starts-requires c κs =
@@ -147,34 +150,22 @@ add-end c = search needs
 add-end-2 : tie.Need-add-end-2 Inv-loop μ-loop
 add-end-2 c = search needs
 
-sub-fault : tie.Need-sub-fault Inv-loop μ-loop
-sub-fault c = search needs
-
-part-fault-start : tie.Need-part-fault-start Inv-loop μ-loop
-part-fault-start c = search needs
-
 -- so is its last byte
-part-fault-end : tie.Need-part-fault-end Inv-loop μ-loop
-part-fault-end c =
-    let h : Whole = c .before .before .before .before in
+judged-requires : tie.Need-judged-requires Inv-loop μ-loop
+judged-requires c κs =
+    let h : Whole = c .before .before .before .before .before .before in
     let o = opened h in
     let v = turn o .loop .inv in
-    let a = size-below v (goes o) (o .open-packet .ensures) (place h) (c .wide .ensures .0) in
+    let d = c .before .before .wide .ensures .0 in
+    let a = size-below v (goes o) (o .open-packet .ensures) (place h) d in
     let b = o .open-packet .ensures .within (place h) in
-    let f = c .before .before .s2 .given .0 in
     let l = v .size in
     let m = v .packs .all in
-    omega arith
-
-fault-requires : tie.Need-fault-requires Inv-loop μ-loop
-fault-requires c κs = search needs
-
-refusal-requires-3 : tie.Need-refusal-requires-3 Inv-loop μ-loop
-refusal-requires-3 c κs = search needs
+    (omega arith, omega arith)
 
 refused-requires : tie.Need-refused-requires Inv-loop μ-loop
 refused-requires c κs =
-    let j : Judged = c .before .before .before in
+    let j : Judged = c .before .before in
     let h = whole j in
     let o = opened h in
     (next-within (turn o .loop .inv) (goes o) (o .open-packet .ensures) (place h) (after-long j), full j)
@@ -182,12 +173,14 @@ refused-requires c κs =
 -- 15, 16, 20, or 13 before them
 returns-3 : tie.Need-returns-3 Inv-loop μ-loop
 returns-3 c = λ y e.
-    let j : Judged = c .before .before .before .before in
+    let j : Judged = c .before .before .before in
     let h = whole j in
     let o = opened h in
-    let dc = j .before .before .wide .ensures .0 in
-    refused-other (turn o .loop .inv) (goes o) (o .open-packet .ensures) (place h) dc (j .fault .ensures) (c .before .before .before .if4 .taken)
-    (fault-below _ (j .fault .ensures)) (c .before .refusal3 .ensures) (c .refused .ensures) y e
+    let v = turn o .loop .inv in
+    let lines = turn o .before .lines-of .ensures in
+    let few = below-limit v (packet-left v (goes o)) in
+    refused-other v (goes o) (o .open-packet .ensures) (place h) (j .before .before .before .wide .ensures .0)
+    (λ y e. j .judged .ensures y e lines few) (c .before .before .if4 .taken) (c .refused .ensures) y e
 
 add-k : tie.Need-add-k Inv-loop μ-loop
 add-k c = let b = below-base (turn (opened (whole (c .before))) .loop .inv) in search needs
@@ -205,9 +198,12 @@ loop-again c =
     let j : Judged = c .before in
     let h = whole j in
     let o = opened h in
-    let dc = j .before .before .wide .ensures .0 in
-    let bytes : Bytes (o .open-packet .last .0) = λ i. j .before .before .before .shared-slice-known .given i .fits in
-    opening-more (turn o .loop .inv) (goes o) (o .open-packet .ensures) (place h) dc (j .fault .ensures) (c .if4 .left) bytes (after-long j)
+    let v = turn o .loop .inv in
+    let lines = turn o .before .lines-of .ensures in
+    let few = below-limit v (packet-left v (goes o)) in
+    let bytes : Bytes (o .open-packet .last .0) = λ i. j .before .before .before .before .shared-slice-known .given i .fits in
+    opening-more v (goes o) (o .open-packet .ensures) (place h) (j .before .before .before .wide .ensures .0)
+    (λ y e. j .judged .ensures y e lines few) (c .if4 .left) bytes (after-long j)
 
 ended-requires : tie.Need-ended-requires Inv-loop μ-loop
 ended-requires c κs =
@@ -231,6 +227,7 @@ open-packets-spec =
     (tie.spec
     Inv-loop
     μ-loop
+    lines-of-requires
     loop-holds
     starts-requires
     open-packet-requires
@@ -243,11 +240,7 @@ open-packets-spec =
     wide-requires
     add-end
     add-end-2
-    sub-fault
-    part-fault-start
-    part-fault-end
-    fault-requires
-    refusal-requires-3
+    judged-requires
     refused-requires
     returns-3
     add-k
