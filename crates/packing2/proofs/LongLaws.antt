@@ -5,23 +5,24 @@
 use Prim.Native.Nat.{ℕ, zero, suc, _+_, _-_, _*_, _/_, _%_, _≤_, _<_}
 use mathlib.Core.Path.{_≡_, refl, sym, ap, ap₂, _∙_}
 use mathlib.Core.Bool.{Bool, true, false, cond, _&&_}
-use mathlib.Core.List.{List, [], _∷_, _++_, append-assoc, append-nil}
+use mathlib.Core.List.{List, [], _∷_, _++_, append-assoc, append-nil, map-append}
 use native.Mathlib.Nat.{zero-add}
 use native.Mathlib.Numerals.{add-one}
 use native.Mathlib.Omega.{arith}
 use lib.Dec.{eqb, ltb, leb}
-use lib.ListN.{length, getD, take, drop, set, replicate, length-take, length-drop, length-replicate, getD-replicate, take-append-drop}
-use lib.ListN.{drop-of-length-le}
-use lib.Seq.{sets, sets-eq, paste, paste-zero, paste-suc, getD-drop, drop-cons, drop-drop, drop-nil, drop-append-le, length-take-le}
-use borrow.Author.Tests.{eqb-true, eqb-false, leb-true, leb-false, ltb-true, ltb-false, lt-ltb, le-leb, lt-leb, ne-eqb}
+use lib.ListN.{length, getD, take, drop, set, replicate, length-take, length-drop, length-replicate, take-append-drop, drop-of-length-le}
+use lib.Seq.{sets, sets-eq, paste, paste-zero, paste-suc, getD-drop, drop-cons, drop-drop, drop-nil, drop-at, drop-append-le}
+use lib.Seq.{length-take-le, take-all}
+use borrow.Author.Tests.{eqb-true, eqb-false, leb-true, leb-false, ltb-true, ltb-false, lt-ltb, le-leb, lt-leb, eq-eqb, ne-eqb}
 use Rattle.rules.specs.Base.{sum, none, one}
 use Rattle.rules.specs.Systems.{System, known, system}
-use Rattle.rules.specs.Blocks.{shift, width, runs, blockSizes}
+use Rattle.rules.specs.Blocks.{Run, blockStart, shift, width, runs, sizes, blockSizes, areaSize, into, scatter}
 use Rattle.rules.specs.Packing2.{fill, filled, endBit, longPacks, stringRoom, longCount}
-use Rattle.rules.proofs.Basics.{all-append, second-false, sets-append}
-use Rattle.rules.proofs.Blocks.{each-system}
+use Rattle.rules.proofs.Basics.{all-append, second-false}
+use Rattle.rules.proofs.Blocks.{each-system, scatter-front}
 use Rattle.rules.proofs.Long.{Roomy, long-none, long-length}
-use Rattle.packing2.specs.Long.{Padded, longFits, longAfter, CountOf, rowsOf, four, rowSizes, rowsSizes, LaidAt}
+use Rattle.packing2.specs.Long.{Padded, laidIn, longFits, longAfter, CountOf, rowsOf, four, rowSizes, rowsSizes}
+use Rattle.packing2.specs.Long.{blockAt, fourRuns, rowRuns, rowsRuns, PackAt, Packed, LaidAt}
 
 -- ---- stores
 
@@ -32,17 +33,16 @@ put-turn us a to i h =
     let e : to + (i + 1) ≡ suc (to + i) = omega arith in
     rw (e, add-one, drop-cons a i 0 h)
 
--- a turn of the loop that stores fill
-pub put-fill : (us : List ℕ) (n to i : ℕ) → i < n
-    → sets (set us (to + i) 0xFF) (to + (i + 1)) (drop (i + 1) (fill n)) ≡ sets us (to + i) (drop i (fill n))
-put-fill us n to i h =
-    let l : length (fill n) ≡ n = length-replicate n 0xFF in
-    ap (λ (x : ℕ). sets (set us (to + i) x) (to + (i + 1)) (drop (i + 1) (fill n))) (sym (getD-replicate n i 0xFF 0 h))
-    ∙ put-turn us (fill n) to i (omega arith)
-
 -- nothing is left
 pub put-end : (us a : List ℕ) (to i : ℕ) → length a ≤ i → sets us (to + i) (drop i a) ≡ us
 put-end us a to i h = rw (drop-of-length-le a h)
+
+-- an array stored is in its block
+pub put-into : (w to : ℕ) (area a : List ℕ) → length a ≡ w → to + w ≤ length area → sets area to a ≡ into area to w a
+put-into w to area a l h =
+    sets-eq a area to (omega arith)
+    ∙ append-assoc (take to area) a (drop (to + length a) area)
+    ∙ rw (take-all w a (omega arith), l, drop-drop w to area)
 
 -- ---- one pack
 
@@ -88,11 +88,15 @@ leb-rest len at room m e h = go (leb len (at + room)) refl
     go true q = let z = leb-true len (at + room) q in le-leb m room (omega arith)
     go false q = let z = leb-false len (at + room) q in lt-leb m room (omega arith)
 
--- behind the string's end blocks have fill
-pub packs-none : (ns s : List ℕ) (at len : ℕ) → len ≤ at → longPacks ns [] (drop at (take len s)) ≡ fill (sum ns)
-packs-none ns s at len h =
+-- behind the string's end nothing is left of it
+rest-none : (s : List ℕ) (at len : ℕ) → len ≤ at → drop at (take len s) ≡ []
+rest-none s at len h =
     let l : length (take len s) ≤ at = simp length-take (omega arith) in
-    rw (drop-of-length-le (take len s) l) (long-none ns [])
+    drop-of-length-le (take len s) l
+
+-- and blocks have fill
+pub packs-none : (ns s : List ℕ) (at len : ℕ) → len ≤ at → longPacks ns [] (drop at (take len s)) ≡ fill (sum ns)
+packs-none ns s at len h = rw (rest-none s at len h) (long-none ns [])
 
 -- before it, a pack has the buffer's bytes
 pack-some : (n : ℕ) (s : List ℕ) (at len : ℕ) → len < 9000 → Padded len s → at < len → at + (n - 3) ≤ 9000
@@ -154,40 +158,52 @@ packs-split (n ∷ ms) ns (x ∷ s) =
     (longPacks ms [] (drop (n - 3) (x ∷ s)))
     (longPacks ns [] (drop (n - 3 + stringRoom ms) (x ∷ s)))))
 
--- blocks laid, and then those behind them
-laid-then : {ms ns s : List ℕ} {len at b to u : ℕ} {us mid after : List ℕ} → Roomy ms
-    → LaidAt ms s len at to us mid → LaidAt ns s len b u mid after → b ≡ at + stringRoom ms → u ≡ to + sum ms
-    → LaidAt (ms ++ ns) s len at to us after
-laid-then {ms} {ns} {s} {len} {at} {b} {to} {u} {us} {mid} {after} r v w eb eu = record { is = whole }
-  where
-    whole : Padded len s → after ≡ sets us to (longPacks (ms ++ ns) [] (drop at (take len s)))
-    whole p =
-        let t : List ℕ = drop at (take len s) in
-        let xs : List ℕ = longPacks ms [] t in
-        let ys : List ℕ = longPacks ns [] (drop (stringRoom ms) t) in
-        let l : to + length xs ≡ u = ap (λ (k : ℕ). to + k) (long-length ms [] t r) ∙ sym eu in
-        let d : drop b (take len s) ≡ drop (stringRoom ms) t =
-        ap (λ (k : ℕ). drop k (take len s)) eb ∙ sym (drop-drop (stringRoom ms) at (take len s)) in
-        w .is p
-        ∙ ap₂ (λ (m y : List ℕ). sets m u (longPacks ns [] y)) (v .is p) d
-        ∙ ap (λ (k : ℕ). sets (sets us to xs) k ys) (sym l)
-        ∙ sym (sets-append xs ys us to)
-        ∙ ap (sets us to) (sym (packs-split ms ns t))
+-- bytes in runs, and then in others
+scatter-append : (ms ns : List Run) (us area : List ℕ)
+    → scatter (ms ++ ns) us area ≡ scatter ns (drop (sum (sizes ms)) us) (scatter ms us area)
+scatter-append [] ns us area = refl
+scatter-append (m ∷ ms) ns us area =
+    scatter-append ms ns (drop (m .size) us) (into area (m .start) (m .size) us)
+    ∙ rw (drop-drop (sum (sizes ms)) (m .size) us)
 
--- one block, as the first of more
-block-then : (n : ℕ) → 3 < n → {ns s : List ℕ} {len at b to u : ℕ} {us mid after : List ℕ}
-    → LaidAt (n ∷ []) s len at to us mid → LaidAt ns s len b u mid after → b ≡ at + (n - 3) → u ≡ to + n
-    → LaidAt (n ∷ ns) s len at to us after
-block-then n h v w eb eu = laid-then (one h none) v w (omega arith) (omega arith)
+-- runs laid, and then others with the string's rest
+laid-then : {ms ns : List Run} {t u area mid after : List ℕ} → Roomy (sizes ms) → u ≡ drop (stringRoom (sizes ms)) t
+    → Packed ms t area mid → Packed ns u mid after → Packed (ms ++ ns) t area after
+laid-then {ms} {ns} {t} {u} {area} {mid} {after} r e v w =
+    let xs : List ℕ = longPacks (sizes ms) [] t in
+    let ys : List ℕ = longPacks (sizes ns) [] (drop (stringRoom (sizes ms)) t) in
+    let l : length xs ≡ sum (sizes ms) = long-length (sizes ms) [] t r in
+    let q : longPacks (sizes (ms ++ ns)) [] t ≡ xs ++ ys =
+    ap (λ (ks : List ℕ). longPacks ks [] t) (map-append (λ (m : Run). m .size) ms ns) ∙ packs-split (sizes ms) (sizes ns) t in
+    record {
+      is =
+          w .is
+          ∙ ap₂ (laidIn ns) e (v .is)
+          ∙ ap₂ (scatter ns) (sym (drop-at xs ys (sum (sizes ms)) l)) (sym (scatter-front ms xs ys area l))
+          ∙ sym (scatter-append ms ns (xs ++ ys) area)
+          ∙ ap (λ (us : List ℕ). scatter (ms ++ ns) us area) (sym q);
+    }
+
+-- one block with its pack
+pub block-laid : (n : ℕ) {to : ℕ} {t area after : List ℕ} (p : List ℕ) → p ≡ longPacks (n ∷ []) [] t → after ≡ into area to n p
+    → Packed (blockAt n to ∷ []) t area after
+block-laid n {to} {t} {area} p q e = record { is = e ∙ ap (into area to n) q }
+
+-- and then others
+block-then : {n to : ℕ} → 3 < n → {ns : List Run} {t u area mid after : List ℕ} → u ≡ drop (n - 3) t
+    → Packed (blockAt n to ∷ []) t area mid → Packed ns u mid after → Packed (blockAt n to ∷ ns) t area after
+block-then {n} h {t = t} e v w =
+    let k : n - 3 ≡ n - 3 + 0 = omega arith in
+    laid-then (one h none) (e ∙ ap (λ (m : ℕ). drop m t) k) v w
 
 -- the blocks of four channels
-pub four-laid : (n : ℕ) → 3 < n → {s : List ℕ} {len at b c d to u v w : ℕ} {us₀ us₁ us₂ us₃ us₄ : List ℕ}
-    → LaidAt (n ∷ []) s len at to us₀ us₁ → LaidAt (n ∷ []) s len b u us₁ us₂
-    → LaidAt (n ∷ []) s len c v us₂ us₃ → LaidAt (n ∷ []) s len d w us₃ us₄
-    → b ≡ at + (n - 3) → c ≡ b + (n - 3) → d ≡ c + (n - 3) → u ≡ to + n → v ≡ u + n → w ≡ v + n
-    → LaidAt (four n) s len at to us₀ us₄
-four-laid n h f₁ f₂ f₃ f₄ eb ec ed eu ev ew =
-    block-then n h f₁ (block-then n h f₂ (block-then n h f₃ f₄ ed ew) ec ev) eb eu
+pub four-laid : (n step : ℕ) → 3 < n → {to : ℕ} {t₁ t₂ t₃ t₄ a₀ a₁ a₂ a₃ a₄ : List ℕ}
+    → t₂ ≡ drop (n - 3) t₁ → t₃ ≡ drop (n - 3) t₂ → t₄ ≡ drop (n - 3) t₃
+    → Packed (blockAt n to ∷ []) t₁ a₀ a₁ → Packed (blockAt n (to + step) ∷ []) t₂ a₁ a₂
+    → Packed (blockAt n (to + 2 * step) ∷ []) t₃ a₂ a₃ → Packed (blockAt n (to + 3 * step) ∷ []) t₄ a₃ a₄
+    → Packed (fourRuns n to step) t₁ a₀ a₄
+unfolding fourRuns
+four-laid n step h d₂ d₃ d₄ e₁ e₂ e₃ e₄ = block-then h d₂ e₁ (block-then h d₃ e₂ (block-then h d₄ e₃ e₄))
 
 -- each of so many equal blocks has room
 roomy-even : (n : ℕ) → 3 < n → (k : ℕ) → Roomy (replicate k n)
@@ -195,18 +211,59 @@ roomy-even n h zero = none
 roomy-even n h (suc k) = one h (roomy-even n h k)
 
 -- the blocks of a row
-pub row-laid : {s : List ℕ} {len at to : ℕ} {us₀ us₁ us₂ us₃ us₄ us₅ us₆ : List ℕ}
-    → LaidAt (four 75) s len at to us₀ us₁ → LaidAt (four 75) s len (at + 288) (to + 300) us₁ us₂
-    → LaidAt (four 45) s len (at + 576) (to + 600) us₂ us₃ → LaidAt (four 45) s len (at + 744) (to + 780) us₃ us₄
-    → LaidAt (four 75) s len (at + 912) (to + 960) us₄ us₅ → LaidAt (four 75) s len (at + 1200) (to + 1260) us₅ us₆
-    → LaidAt rowSizes s len at to us₀ us₆
-row-laid f₁ f₂ f₃ f₄ f₅ f₆ =
-    let a : Roomy (four 75) = roomy-even 75 (omega arith) 4 in
-    let b : Roomy (four 45) = roomy-even 45 (omega arith) 4 in
-    let e = laid-then a f₅ f₆ (omega arith) (omega arith) in
-    let d = laid-then b f₄ e (omega arith) (omega arith) in
-    let c = laid-then b f₃ d (omega arith) (omega arith) in
-    laid-then a f₁ (laid-then a f₂ c (omega arith) (omega arith)) refl refl
+pub row-laid : (to step : ℕ) {t₁ t₂ t₃ t₄ t₅ t₆ a₀ a₁ a₂ a₃ a₄ a₅ a₆ : List ℕ}
+    → t₂ ≡ drop 288 t₁ → t₃ ≡ drop 288 t₂ → t₄ ≡ drop 168 t₃ → t₅ ≡ drop 168 t₄ → t₆ ≡ drop 288 t₅
+    → Packed (fourRuns 75 (to + 3) step) t₁ a₀ a₁ → Packed (fourRuns 75 (to + 83) step) t₂ a₁ a₂
+    → Packed (fourRuns 45 (to + 163) step) t₃ a₂ a₃ → Packed (fourRuns 45 (to + 273) step) t₄ a₃ a₄
+    → Packed (fourRuns 75 (to + 323) step) t₅ a₄ a₅ → Packed (fourRuns 75 (to + 403) step) t₆ a₅ a₆
+    → Packed (rowRuns step to) t₁ a₀ a₆
+unfolding fourRuns rowRuns
+row-laid to step d₂ d₃ d₄ d₅ d₆ e₁ e₂ e₃ e₄ e₅ e₆ =
+    let r : Roomy (four 75) = roomy-even 75 (omega arith) 4 in
+    let q : Roomy (four 45) = roomy-even 45 (omega arith) 4 in
+    laid-then r d₂ e₁ (laid-then r d₃ e₂ (laid-then q d₄ e₃ (laid-then q d₅ e₄ (laid-then r d₆ e₅ e₆))))
+
+-- what is left of a string further on
+rest-on : (s : List ℕ) (len at b n : ℕ) → b ≡ at + n → drop b (take len s) ≡ drop n (drop at (take len s))
+rest-on s len at b n e = ap (λ (k : ℕ). drop k (take len s)) e ∙ sym (drop-drop n at (take len s))
+
+-- the same for a string in a padded buffer: one block
+pub block-at : {n to : ℕ} {s : List ℕ} {len at : ℕ} {p area after : List ℕ} → PackAt n s len at p → after ≡ into area to n p
+    → LaidAt (blockAt n to ∷ []) s len at area after
+block-at {n} {p = p} q e = record { is = λ d. block-laid n p (q .is d) e }
+
+-- blocks behind the string's end
+pub fill-at : {rs : List Run} {area after : List ℕ} (s : List ℕ) (len at : ℕ) → len ≤ at → Packed rs [] area after → LaidAt rs s len at area after
+fill-at s len at h v = record { is = λ _. rw (rest-none s at len h) v }
+
+-- the blocks of four channels
+pub four-at : (n step : ℕ) → 3 < n → {to : ℕ} {s : List ℕ} {len at b c d : ℕ} {a₀ a₁ a₂ a₃ a₄ : List ℕ}
+    → LaidAt (blockAt n to ∷ []) s len at a₀ a₁ → LaidAt (blockAt n (to + step) ∷ []) s len b a₁ a₂
+    → LaidAt (blockAt n (to + 2 * step) ∷ []) s len c a₂ a₃ → LaidAt (blockAt n (to + 3 * step) ∷ []) s len d a₃ a₄
+    → b ≡ at + (n - 3) → c ≡ b + (n - 3) → d ≡ c + (n - 3) → LaidAt (fourRuns n to step) s len at a₀ a₄
+four-at n step h {s = s} {len} {at} {b} {c} {d} e₁ e₂ e₃ e₄ eb ec ed =
+    record {
+      is =
+          λ p.
+          four-laid n step h (rest-on s len at b (n - 3) eb) (rest-on s len b c (n - 3) ec) (rest-on s len c d (n - 3) ed)
+          (e₁ .is p) (e₂ .is p) (e₃ .is p) (e₄ .is p);
+    }
+
+-- the blocks of a row
+pub row-at : (to step : ℕ) {s : List ℕ} {len at : ℕ} {a₀ a₁ a₂ a₃ a₄ a₅ a₆ : List ℕ}
+    → LaidAt (fourRuns 75 (to + 3) step) s len at a₀ a₁ → LaidAt (fourRuns 75 (to + 83) step) s len (at + 288) a₁ a₂
+    → LaidAt (fourRuns 45 (to + 163) step) s len (at + 576) a₂ a₃ → LaidAt (fourRuns 45 (to + 273) step) s len (at + 744) a₃ a₄
+    → LaidAt (fourRuns 75 (to + 323) step) s len (at + 912) a₄ a₅ → LaidAt (fourRuns 75 (to + 403) step) s len (at + 1200) a₅ a₆
+    → LaidAt (rowRuns step to) s len at a₀ a₆
+row-at to step {s} {len} {at} e₁ e₂ e₃ e₄ e₅ e₆ =
+    record {
+      is =
+          λ p.
+          row-laid to step (rest-on s len at (at + 288) 288 refl) (rest-on s len (at + 288) (at + 576) 288 (omega arith))
+          (rest-on s len (at + 576) (at + 744) 168 (omega arith)) (rest-on s len (at + 744) (at + 912) 168 (omega arith))
+          (rest-on s len (at + 912) (at + 1200) 288 (omega arith))
+          (e₁ .is p) (e₂ .is p) (e₃ .is p) (e₄ .is p) (e₅ .is p) (e₆ .is p);
+    }
 
 -- ---- rows
 
@@ -216,10 +273,6 @@ roomy-first = all-append _ (replicate 8 75) (replicate 8 45) (roomy-even 75 (ome
 
 pub roomy-row : Roomy rowSizes
 roomy-row = all-append _ (replicate 8 75 ++ replicate 8 45) (replicate 8 75) roomy-first (roomy-even 75 (omega arith) 8)
-
-roomy-rows : (k : ℕ) → Roomy (rowsSizes k)
-roomy-rows zero = none
-roomy-rows (suc k) = all-append _ rowSizes (rowsSizes k) roomy-row (roomy-rows k)
 
 -- what so many rows hold
 pub sum-rows : (k : ℕ) → sum (rowsSizes k) ≡ 1560 * k
@@ -231,65 +284,82 @@ room-rows zero = refl
 room-rows (suc k) = let e = room-rows k in omega arith
 
 -- a turn of the loop over rows: what is left of them, laid, gives the whole
-pub rows-turn : (left : ℕ) {s : List ℕ} {len at to : ℕ} {us mid whole : List ℕ} → 0 < left
-    → LaidAt (rowsSizes left) s len at to us whole → LaidAt rowSizes s len at to us mid
-    → LaidAt (rowsSizes (left - 1)) s len (at + 1488) (to + 1560) mid whole
-rows-turn zero h v w = absurd (omega arith)
-rows-turn (suc k) {s} {len} {at} {to} {us} {mid} {whole} h v w =
-    let e : suc k - 1 ≡ k = omega arith in
-    let rest : List ℕ = sets mid (to + 1560) (longPacks (rowsSizes k) [] (drop (at + 1488) (take len s))) in
-    let l : LaidAt (rowsSizes k) s len (at + 1488) (to + 1560) mid rest = record { is = λ _. refl } in
-    let m : LaidAt (rowSizes ++ rowsSizes k) s len at to us rest = laid-then roomy-row w l refl refl in
-    rw e (record { is = λ p. v .is p ∙ sym (m .is p) })
+pub rows-turn : (left step to : ℕ) {s : List ℕ} {len at : ℕ} {area mid whole : List ℕ} → 0 < left
+    → LaidAt (rowsRuns step to left) s len at area whole → LaidAt (rowRuns step to) s len at area mid
+    → LaidAt (rowsRuns step (to + 480) (left - 1)) s len (at + 1488) mid whole
+unfolding fourRuns rowRuns
+rows-turn zero step to h v w = absurd (omega arith)
+rows-turn (suc k) step to {s} {len} {at} {area} {mid} {whole} h v w = let e : suc k - 1 ≡ k = omega arith in rw e (record { is = rest })
+  where
+    rest : Padded len s → Packed (rowsRuns step (to + 480) k) (drop (at + 1488) (take len s)) mid whole
+    rest p =
+        let r : List ℕ = laidIn (rowsRuns step (to + 480) k) (drop (at + 1488) (take len s)) mid in
+        let n : Packed (rowsRuns step (to + 480) k) (drop (at + 1488) (take len s)) mid r = record { is = refl } in
+        record { is = v .is p .is ∙ sym (laid-then roomy-row (rest-on s len at (at + 1488) 1488 refl) (w .is p) n .is) }
 
 -- no rows are left
-pub rows-end : (left : ℕ) {s : List ℕ} {len at to : ℕ} {us whole : List ℕ} → left ≤ 0 → LaidAt (rowsSizes left) s len at to us whole
-    → Padded len s → us ≡ whole
-rows-end zero h v p = sym (v .is p)
-rows-end (suc k) h v p = absurd (omega arith)
+pub rows-end : (left step to : ℕ) {s : List ℕ} {len at : ℕ} {area whole : List ℕ} → left ≤ 0
+    → LaidAt (rowsRuns step to left) s len at area whole → Padded len s → area ≡ whole
+rows-end zero step to h v p = sym (v .is p .is)
+rows-end (suc k) step to h v p = absurd (omega arith)
 
 -- the blocks of a system are those of its rows
 pub sizes-rows : (sys : ℕ) → blockSizes (system sys) ≡ rowsSizes (rowsOf sys)
 unfolding rowsOf runs shift width
 sizes-rows sys = each-system (λ (y : System) (k : Bool). blockSizes y ≡ rowsSizes (y .sequences / 2)) refl refl refl refl sys
 
+-- and so is where they lie
+runs-rows : (sys : ℕ) → runs (system sys) ≡ rowsRuns (480 * rowsOf sys) 0 (rowsOf sys)
+unfolding rowsOf runs blockStart shift width fourRuns rowRuns
+runs-rows sys = each-system (λ (y : System) (k : Bool). runs y ≡ rowsRuns (480 * (y .sequences / 2)) 0 (y .sequences / 2)) refl refl refl refl sys
+
+-- and how long its area is
+area-rows : (sys : ℕ) → areaSize (system sys) ≡ 1920 * rowsOf sys
+unfolding rowsOf
+area-rows sys = each-system (λ (y : System) (k : Bool). areaSize y ≡ 1920 * (y .sequences / 2)) refl refl refl refl sys
+
 -- a system is known exactly where it has rows
 known-rows : (sys : ℕ) → known sys ≡ ltb 0 (rowsOf sys)
 unfolding rowsOf
 known-rows sys = each-system (λ (y : System) (k : Bool). k ≡ ltb 0 (y .sequences / 2)) refl refl refl refl sys
 
--- where a string does not fit, the user bytes stay
-pub after-kept : (sys len : ℕ) (s us : List ℕ) → longFits sys len ≡ false → us ≡ longAfter sys len s us
+-- where a string does not fit, the area stays
+pub after-kept : (sys len : ℕ) (s area : List ℕ) → longFits sys len area ≡ false → area ≡ longAfter sys len s area
 unfolding longAfter
-after-kept sys len s us f = rw f
+after-kept sys len s area f = rw f
 
-module _ (sys len rows : ℕ) (e : rows ≡ rowsOf sys) where
+module _ (sys len rows : ℕ) (area : List ℕ) (e : rows ≡ rowsOf sys) where
   -- whether a string fits, by rows
-  fits-rows : longFits sys len ≡ (ltb 0 rows && leb len (1488 * rows))
+  fits-rows : longFits sys len area ≡ (ltb 0 rows && (eqb (length area) (1920 * rows) && leb len (1488 * rows)))
   unfolding longFits
-  fits-rows = rw (known-rows sys, sizes-rows sys, ← e, room-rows rows)
+  fits-rows = rw (known-rows sys, area-rows sys, sizes-rows sys, ← e, room-rows rows)
 
   -- nothing fits where there are no rows
-  pub fits-none : rows ≡ 0 → longFits sys len ≡ false
+  pub fits-none : rows ≡ 0 → longFits sys len area ≡ false
   fits-none z = fits-rows ∙ rw z
 
   -- nor more than the rows hold
-  pub fits-over : 1488 * rows < len → longFits sys len ≡ false
-  fits-over h = fits-rows ∙ second-false (ltb 0 rows) (leb len (1488 * rows)) (lt-leb len (1488 * rows) h)
+  pub fits-over : 1488 * rows < len → longFits sys len area ≡ false
+  fits-over h =
+      let f = second-false (eqb (length area) (1920 * rows)) (leb len (1488 * rows)) (lt-leb len (1488 * rows) h) in
+      fits-rows ∙ second-false (ltb 0 rows) (eqb (length area) (1920 * rows) && leb len (1488 * rows)) f
+
+  -- nor into an area of another length
+  pub fits-other : (length area ≡ 1920 * rows → ⊥) → longFits sys len area ≡ false
+  fits-other n =
+      let f : (eqb (length area) (1920 * rows) && leb len (1488 * rows)) ≡ false = rw (ne-eqb (length area) (1920 * rows) n) in
+      fits-rows ∙ second-false (ltb 0 rows) (eqb (length area) (1920 * rows) && leb len (1488 * rows)) f
 
   -- all else fits
-  pub fits-in : (rows ≡ 0 → ⊥) → len ≤ 1488 * rows → longFits sys len ≡ true
-  fits-in z h = fits-rows ∙ rw (lt-ltb 0 rows (omega arith), le-leb len (1488 * rows) h)
+  pub fits-in : (rows ≡ 0 → ⊥) → len ≤ 1488 * rows → length area ≡ 1920 * rows → longFits sys len area ≡ true
+  fits-in z h l =
+      fits-rows ∙ rw (lt-ltb 0 rows (omega arith), eq-eqb (length area) (1920 * rows) l, le-leb len (1488 * rows) h)
 
   -- where it fits, the rows laid are what the call promises
-  pub after-laid : (s us after : List ℕ) → longFits sys len ≡ true → rows ≤ 6 → length us ≡ 9360
-      → LaidAt (rowsSizes rows) s len 0 0 us after → Padded len s → after ≡ longAfter sys len s us
+  pub after-laid : (s after : List ℕ) → longFits sys len area ≡ true → LaidAt (rowsRuns (480 * rows) 0 rows) s len 0 area after → Padded len s
+      → after ≡ longAfter sys len s area
   unfolding longAfter
-  after-laid s us after f h l v p =
-      let xs : List ℕ = longPacks (rowsSizes rows) [] (take len s) in
-      let q : length xs ≡ sum (rowsSizes rows) = long-length (rowsSizes rows) [] (take len s) (roomy-rows rows) in
-      let z = sum-rows rows in
-      rw (f, sizes-rows sys, ← e, ← q) (v .is p ∙ sets-eq xs us 0 (omega arith) ∙ ap (λ (k : ℕ). xs ++ drop k us) (zero-add (length xs)))
+  after-laid s after f v p = rw (f, runs-rows sys, ← e) (v .is p .is)
 
 -- ---- the count
 

@@ -1,17 +1,15 @@
--- Packing 2 over the user bytes of a frame (001, 4.1.2): when a string fits, and what stands in the user bytes afterwards.
+-- Packing 2 into the blocks of an area (001, 4.1.2): when a string fits, and what stands in the area afterwards.
 --
 -- In order: what the calls promise; how the code goes about it: rows of two sequences, and blocks laid from a place on.
 -- Assumes nothing.
-use Prim.Native.Nat.{ℕ, zero, suc, _-_, _/_, _≤_}
+use Prim.Native.Nat.{ℕ, zero, suc, _+_, _-_, _*_, _/_, _≤_}
 use mathlib.Core.Path.{_≡_}
 use mathlib.Core.Bool.{Bool, true, cond, _&&_}
 use mathlib.Core.List.{List, [], _∷_, _++_}
-use lib.Dec.{leb}
-use lib.ListN.{take, drop}
-use lib.Seq.{sets}
-use Rattle.rules.specs.Base.{sum}
+use lib.Dec.{eqb, leb}
+use lib.ListN.{length, take, drop}
 use Rattle.rules.specs.Systems.{known, system}
-use Rattle.rules.specs.Blocks.{blockSizes}
+use Rattle.rules.specs.Blocks.{Run, runs, sizes, blockSizes, areaSize, scatter}
 use Rattle.rules.specs.Packing2.{fill, longPacks, stringRoom, longCount}
 
 -- ---- what the calls promise
@@ -20,17 +18,18 @@ use Rattle.rules.specs.Packing2.{fill, longPacks, stringRoom, longCount}
 abbrev pub Padded : ℕ → List ℕ → Type 0
 Padded len s = drop len s ≡ fill (9000 - len)
 
--- a string of len bytes fits: the system is known, and len is within its "String capacity, long packs"
-unfoldable pub longFits : ℕ → ℕ → Bool
-longFits sys len = known sys && leb len (stringRoom (blockSizes (system sys)))
+-- an area with the long packs of a string in these runs
+abbrev pub laidIn : List Run → List ℕ → List ℕ → List ℕ
+laidIn rs s area = scatter rs (longPacks (sizes rs) [] s) area
 
--- the user bytes afterwards: the packs of the string's first len bytes, and what stood behind them; all as before where the
--- string does not fit
+-- a string of len bytes fits into an area: the system is known, the area is its own, and len is within its "String capacity, long
+-- packs"
+unfoldable pub longFits : ℕ → ℕ → List ℕ → Bool
+longFits sys len area = known sys && (eqb (length area) (areaSize (system sys)) && leb len (stringRoom (blockSizes (system sys))))
+
+-- the area afterwards: the packs of the string's first len bytes in its blocks; all as before where the string does not fit
 unfoldable pub longAfter : ℕ → ℕ → List ℕ → List ℕ → List ℕ
-longAfter sys len s us =
-    cond (longFits sys len)
-    (longPacks (blockSizes (system sys)) [] (take len s) ++ drop (sum (blockSizes (system sys))) us)
-    us
+longAfter sys len s area = cond (longFits sys len area) (laidIn (runs (system sys)) (take len s) area) area
 
 -- the packs of so many string bytes, in every system that has room for them
 abbrev pub CountOf : ℕ → ℕ → Type 0
@@ -56,6 +55,37 @@ abbrev pub rowsSizes : ℕ → List ℕ
 rowsSizes zero = []
 rowsSizes (suc k) = rowSizes ++ rowsSizes k
 
--- user bytes with the packs of these blocks stored from place `to` on; the string has len bytes, and they begin with its byte `at`
-pub record LaidAt (ns s : List ℕ) (len at to : ℕ) (us after : List ℕ) : Type 0 where
-  pub is : Padded len s → after ≡ sets us to (longPacks ns [] (drop at (take len s)))
+-- the user bytes of a block of this size, from a place of the area on
+abbrev pub blockAt : ℕ → ℕ → Run
+blockAt size to = record { start = to; size = size }
+
+-- the same of four channels, which stand `step` bytes apart
+unfoldable pub fourRuns : ℕ → ℕ → ℕ → List Run
+fourRuns size to step = blockAt size to ∷ blockAt size (to + step) ∷ blockAt size (to + 2 * step) ∷ blockAt size (to + 3 * step) ∷ []
+
+-- those of a row, which is 480 bytes of a channel (001, figure 2 and table 4)
+unfoldable pub rowRuns : ℕ → ℕ → List Run
+rowRuns step to =
+    fourRuns 75 (to + 3) step
+    ++ (fourRuns 75 (to + 83) step
+    ++ (fourRuns 45 (to + 163) step
+    ++ (fourRuns 45 (to + 273) step
+    ++ (fourRuns 75 (to + 323) step
+    ++ fourRuns 75 (to + 403) step))))
+
+-- those of so many rows
+abbrev pub rowsRuns : ℕ → ℕ → ℕ → List Run
+rowsRuns step to zero = []
+rowsRuns step to (suc k) = rowRuns step to ++ rowsRuns step (to + 480) k
+
+-- the pack of a block of n user bytes, for a string of len bytes in a padded buffer: it begins with the string's byte `at`
+pub record PackAt (n : ℕ) (s : List ℕ) (len at : ℕ) (p : List ℕ) : Type 0 where
+  pub is : Padded len s → p ≡ longPacks (n ∷ []) [] (drop at (take len s))
+
+-- an area after the packs of a string were laid into these runs
+pub record Packed (rs : List Run) (t area after : List ℕ) : Type 0 where
+  pub is : after ≡ laidIn rs t area
+
+-- the same for a string in a padded buffer, from its byte `at` on
+pub record LaidAt (rs : List Run) (s : List ℕ) (len at : ℕ) (area after : List ℕ) : Type 0 where
+  pub is : Padded len s → Packed rs (drop at (take len s)) area after

@@ -1,5 +1,4 @@
-// Packing 2, long packs, over a run of user bytes (001, 4.1.2): laid by `long`, opened by `unlong`. Where the user bytes lie in an area is no concern
-// of theirs.
+// Packing 2, long packs (001, 4.1.2): laid into the blocks of an area by `long`, opened from a run of user bytes by `unlong`.
 mod long;
 mod unlong;
 

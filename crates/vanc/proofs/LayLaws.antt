@@ -136,10 +136,10 @@ unfolding userBytes
 bytes2 sizes ps = refl
 
 -- the string over fill is padded, and its packs are the list's user bytes
-pub laid2 : (sys : ℕ) (ls ws s us area after : List ℕ) → LaysString ls ws (fill 9000) s
-    → (Padded (length ws) s → us ≡ longAfter sys (length ws) s (fill 9360)) → after ≡ areaWith sys us area → LaysInto 2 sys ls ws area after
+pub laid2 : (sys : ℕ) (ls ws s area after : List ℕ) → LaysString ls ws (fill 9000) s
+    → (Padded (length ws) s → after ≡ longAfter sys (length ws) s area) → LaysInto 2 sys ls ws area after
 unfolding longAfter longFits
-laid2 sys ls ws s us area after w v a = record { laid = done }
+laid2 sys ls ws s area after w v = record { laid = done }
   where
     done : (ps : List Packet) → known sys ≡ true → length area ≡ areaSize (system sys) → SectionsOf (system sys) ps ls ws
         → fits 2 (blockSizes (system sys)) ps ≡ true
@@ -157,9 +157,8 @@ laid2 sys ls ws s us area after w v a = record { laid = done }
         let p : Padded (length ws) s = ap (drop (length ws)) e ∙ drop-at (string (map written ps)) (fill (9000 - length ws)) (length ws) m in
         let t : take (length ws) s ≡ string (map written ps) =
         ap (take (length ws)) e ∙ take-at (string (map written ps)) (fill (9000 - length ws)) (length ws) m in
-        let u : us ≡ laidBytes 2 sizes ps ++ drop (sum sizes) (fill 9360) =
-        v p ∙ rw (kn, le-leb (length ws) (stringRoom sizes) (omega arith), t, bytes2 sizes ps) in
-        spread-laid 2 sys ps area kn own f us (drop (sum sizes) (fill 9360)) after u a
+        let fit = le-leb (length ws) (stringRoom sizes) (omega arith) in
+        v p ∙ rw (kn, eq-eqb (length area) (areaSize (system sys)) own, fit, t, bytes2 sizes ps)
 
 -- ---- the room
 

@@ -38,9 +38,7 @@ fn lay2(system: u64, ls: &[u16], ws: &[u16], area: &mut [u8])
 {
     let mut s = [0xFFu8; 9000];
     sections::string_of(ls, ws, &mut s);
-    let mut us = [0xFFu8; 9360];
-    packing2::lay_long(system, &s, ws.len(), &mut us);
-    frame::spread(system, &us, area);
+    packing2::lay_long(system, &s, ws.len(), area);
 }
 
 // "12 | over the packs (packing 1) or string bytes (packing 2)", the last test: only then is the area written.

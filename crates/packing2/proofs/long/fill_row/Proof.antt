@@ -1,57 +1,76 @@
--- `packing2::long::fill_row` meets its contract. The loop's invariant: what is left of the fill, stored, gives the whole. Assumes nothing.
-use Prim.Native.Nat.{ℕ, _+_, _-_, _≤_}
-use mathlib.Core.Path.{_≡_, sym, ap, _∙_}
-use native.Mathlib.Nat.{add-zero}
-use native.Mathlib.Omega.{arith}
-use lib.ListN.{length, drop, length-replicate}
-use lib.Seq.{sets}
+-- `packing2::long::fill_row` meets its contract. As `lay_row`, with no string. Assumes nothing.
+use mathlib.Core.Path.{refl}
 use borrow.Author.Needs.{needs}
-use Rattle.rules.specs.Packing2.{fill}
-use Rattle.packing2.proofs.LongLaws.{put-fill, put-end}
+use Rattle.packing2.proofs.LongLaws.{row-laid}
 use Rattle.packing2.proofs.long.fill_row.Statement.{statement}
 use Rattle.packing2.proofs.long.fill_row.Tie as tie
 
-abbrev Inv-loop : tie.InvT-loop
-Inv-loop us₀ to i₀ us i = (i ≤ 1560) × (sets us (to + i) (drop i (fill 1560)) ≡ sets us₀ to (fill 1560))
+add-fill75 : tie.Need-add-fill75
+add-fill75 c = search needs
 
-abbrev μ-loop : tie.MeasureT-loop
-μ-loop us₀ to i₀ us i = 1560 - i
+fill75-requires : tie.Need-fill75-requires
+fill75-requires c κs = search needs
 
-loop-holds : tie.Need-loop-holds Inv-loop μ-loop
-loop-holds c = (search needs, ap (λ (k : ℕ). sets (c .args .us .now) k (fill 1560)) (add-zero (c .args .to)))
+add-fill75-2 : tie.Need-add-fill75-2
+add-fill75-2 c = search needs
 
-add-us : tie.Need-add-us Inv-loop μ-loop
-add-us c = search needs
+fill75-requires-2 : tie.Need-fill75-requires-2
+fill75-requires-2 c κs = search needs
 
-element-write-us : tie.Need-element-write-us Inv-loop μ-loop
-element-write-us c = search needs
+add-fill45 : tie.Need-add-fill45
+add-fill45 c = search needs
 
-add-i : tie.Need-add-i Inv-loop μ-loop
-add-i c = search needs
+fill45-requires : tie.Need-fill45-requires
+fill45-requires c κs = search needs
 
-loop-less : tie.Need-loop-less Inv-loop μ-loop
-loop-less c = search needs
+add-fill45-2 : tie.Need-add-fill45-2
+add-fill45-2 c = search needs
 
-loop-again : tie.Need-loop-again Inv-loop μ-loop
-loop-again c =
-    let d = c .before in
-    (search needs, put-fill (d .loop .us) 1560 (d .before .args .to) (d .loop .i) (omega arith) ∙ d .loop .inv .1)
+fill45-requires-2 : tie.Need-fill45-requires-2
+fill45-requires-2 c κs = search needs
 
-returns : tie.Need-returns Inv-loop μ-loop
+add-fill75-3 : tie.Need-add-fill75-3
+add-fill75-3 c = search needs
+
+fill75-requires-3 : tie.Need-fill75-requires-3
+fill75-requires-3 c κs = search needs
+
+add-fill75-4 : tie.Need-add-fill75-4
+add-fill75-4 c = search needs
+
+fill75-requires-4 : tie.Need-fill75-requires-4
+fill75-requires-4 c κs = search needs
+
+same-length : tie.Need-same-length
+same-length c = search needs
+
+returns : tie.Need-returns
 returns c =
-    let l : length (fill 1560) ≡ 1560 = length-replicate {A = ℕ} 1560 0xFF in
-    sym (put-end (c .before .loop .us) (fill 1560) (c .before .before .args .to) (c .before .loop .i) (omega arith)) ∙ c .before .loop .inv .1
+    let c₆ = c .before .before in
+    let c₅ = c₆ .before .before .before .before in
+    let c₄ = c₅ .before .before .before .before in
+    let c₃ = c₄ .before .before .before .before in
+    let c₂ = c₃ .before .before .before .before in
+    let c₁ = c₂ .before .before .before .before in
+    let z = c₁ .before .before .before .args in
+    row-laid (z .to) (z .step) refl refl refl refl refl
+    (c₁ .fill75 .ensures) (c₂ .fill752 .ensures) (c₃ .fill45 .ensures) (c₄ .fill452 .ensures) (c₅ .fill753 .ensures) (c₆ .fill754 .ensures)
 
 pub fill-row-spec : {M : Type 1} → statement M
 fill-row-spec =
     tie.close
     (tie.spec
-    Inv-loop
-    μ-loop
-    loop-holds
-    add-us
-    element-write-us
-    add-i
-    loop-less
-    loop-again
+    add-fill75
+    fill75-requires
+    add-fill75-2
+    fill75-requires-2
+    add-fill45
+    fill45-requires
+    add-fill45-2
+    fill45-requires-2
+    add-fill75-3
+    fill75-requires-3
+    add-fill75-4
+    fill75-requires-4
+    same-length
     returns)

@@ -15,7 +15,9 @@ abbrev μ-loop : tie.MeasureT-loop
 μ-loop s at len a₀ i₀ a i = 42 - i
 
 returns : tie.Need-returns Inv-loop μ-loop
-returns c = λ _. sym (packs-none (45 ∷ []) (c .before .args .s .now) (c .before .args .at) (c .before .args .len) (omega arith))
+returns c =
+    let z = c .before .args in
+    record { is = λ _. sym (packs-none (45 ∷ []) (z .s .now) (z .at) (z .len) (omega arith)) }
 
 array-write-a : tie.Need-array-write-a Inv-loop μ-loop
 array-write-a c = search needs
@@ -59,7 +61,9 @@ loop-again c = (search needs, fill-turn (c .before .before .loop .inv .1) (omega
 returns-2 : tie.Need-returns-2 Inv-loop μ-loop
 returns-2 c =
     let d = c .before .before in
-    fill-end (d .before .before .args .len) (c .before .loop .inv .1) (d .end-byte .ensures) (omega arith) (omega arith) (omega arith) (omega arith)
+    let z = d .before .before .args in
+    let f = c .before .loop .inv .1 in
+    record { is = fill-end (z .len) f (d .end-byte .ensures) (omega arith) (omega arith) (omega arith) (omega arith) }
 
 pub pack45-spec : {M : Type 1} → statement M
 pack45-spec =

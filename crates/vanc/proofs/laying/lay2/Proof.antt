@@ -1,4 +1,4 @@
--- `vanc::laying::lay2` meets its contract: the string over fill, its long packs over fill, spread. Assumes nothing.
+-- `vanc::laying::lay2` meets its contract: the string over fill, and its long packs into the area. Assumes nothing.
 use borrow.Author.Needs.{needs}
 use Rattle.vanc.proofs.LayLaws.{laid2}
 use Rattle.vanc.proofs.laying.lay2.Statement.{statement}
@@ -10,17 +10,13 @@ string-of-requires c κs = search needs
 lay-long-requires : tie.Need-lay-long-requires
 lay-long-requires c κs = search needs
 
-spread-requires : tie.Need-spread-requires
-spread-requires c κs = search needs
-
 same-length : tie.Need-same-length
 same-length c = search needs
 
 returns : tie.Need-returns
 returns c =
-    let l : tie.After-lay-long = c .before .before .before .before .before in
-    laid2 _ _ _ _ _ _ _ (l .before .before .before .string-of .ensures) (l .lay-long .ensures .1 .0) (c .before .before .spread .ensures .1)
+    let l : tie.After-lay-long = c .before .before in
+    laid2 _ _ _ _ _ _ (l .before .before .before .string-of .ensures) (l .lay-long .ensures .1 .0)
 
 pub lay2-spec : {M : Type 1} → statement M
-lay2-spec =
-    tie.close (tie.spec string-of-requires lay-long-requires spread-requires same-length returns)
+lay2-spec = tie.close (tie.spec string-of-requires lay-long-requires same-length returns)
