@@ -27,12 +27,11 @@ use Rattle.rules.proofs.Basics.{sets-front, sets-behind, rest-part}
 use Rattle.rules.proofs.Words.{low-word, map-low}
 use Rattle.rules.proofs.Sheets.{system-back, sheet-read}
 use Rattle.sheet.proofs.Filling.{part-kept, part-front}
-use Rattle.sections.specs.Sections.{SectionsOf}
+use Rattle.sections.specs.Sections.{SectionsOf, Sections}
 use Rattle.sections.proofs.Laws.{sections-of, Left, left-all, left-none, Next, next-of, next-inside}
 use Rattle.mxf.specs.Element.{two, three, four, key, wrapping, coding, bare, samples, structure, value, element, elementOf}
 use Rattle.mxf.specs.Served.{serves, served}
 use Rattle.mxf.specs.Writing.{lined, export, withRoom, writing, writtenOf, writtenWith, writtenIn, elementIn, write, elementAfter}
-use Rattle.mxf.specs.Parts.{Sections}
 use Rattle.mxf.specs.declared.ElementWritten.{ElementWritten}
 use Rattle.mxf.proofs.Elements.{structure-length}
 use Rattle.mxf.proofs.Exporting.{joined-short, served-sound, served-few}

@@ -1,6 +1,6 @@
 -- What the functions of this crate promise each other.
 --
--- In order: the place of a fault; a structure; the sections of a sheet; the packets of structures; the answer of reading.
+-- In order: the place of a fault; a structure; the packets of structures; the answer of reading.
 -- Assumes nothing.
 use Prim.Native.Nat.{ℕ, _+_, _≤_, _<_}
 use mathlib.Core.Path.{_≡_}
@@ -8,13 +8,11 @@ use mathlib.Core.Bool.{Bool, cond}
 use mathlib.Core.List.{List}
 use lib.Dec.{eqb}
 use lib.ListN.{length, getD}
-use Rattle.rules.specs.Systems.{System}
 use Rattle.rules.specs.Packet.{Packet}
 use Rattle.rules.specs.Sheet.{limit, allWords, sheetOf}
 use Rattle.rules.specs.Numbers.{Outcome, listed, refused}
 use Rattle.rules.specs.Reading.{bufferOf}
 use Rattle.sheet.specs.Write.{listIn}
-use Rattle.sections.specs.Sections.{SectionsOf}
 use Rattle.mxf.specs.Judging.{twoIn, fourIn, sizeIn, structures}
 use Rattle.mxf.specs.Reading.{readOf}
 use Rattle.mxf.specs.declared.ElementRead.{ElementRead}
@@ -32,14 +30,6 @@ pub record Whole (s : List ℕ) : Type 0 where
   pub there : sizeIn s ≤ length s
   pub room : twoIn s 4 ≤ fourIn s 6
   pub dc : getD s 16 0 + 3 ≡ twoIn s 4
-
--- ---- the sections of a sheet
-
--- ls and ws are the sections B and C of a sheet that has passed its tests
-pub record Sections (ls ws : List ℕ) : Type 0 where
-  pub system : System
-  pub packets : List Packet
-  pub of : SectionsOf system packets ls ws
 
 -- ---- the packets of structures
 

@@ -17,12 +17,11 @@ ghost use Rattle.rules.specs.Packet.{Packet};
 ghost use Rattle.rules.specs.Numbers.{refused};
 ghost use Rattle.rules.specs.Laying.{low};
 ghost use Rattle.rules.specs.Demands.{SheetOf};
-ghost use Rattle.sections.specs.Sections.{SectionsOf};
+ghost use Rattle.sections.specs.Sections.{SectionsOf, Sections};
 ghost use Rattle.mxf.specs.Element.{two, three, four, key, coding, bare, structure, elementOf};
 ghost use Rattle.mxf.specs.Served.{serves as servesFlags, served};
 ghost use Rattle.mxf.specs.Writing.{export, withRoom, writtenOf, writtenWith, elementIn};
 ghost use Rattle.mxf.specs.Demands.{Writes};
-ghost use Rattle.mxf.specs.Parts.{Sections};
 
 // On refusal the later figures are 0. The word is the one that the lister's tests name (document 02, A2).
 fn refusal(number: u64, place: u64, word: u64) -> ElementWritten

@@ -1,21 +1,21 @@
 -- Laws for the proofs of this crate, and for those who take a sheet's packets from its sections, one path of the code at a time.
 --
 -- In order: low bytes; the sections of a sheet; the packet at a place of section C; what a sound packet's words give; the packets that
--- are left; their header bytes; a loop that lays headers; the string.
+-- are left; their header bytes; a loop that lays headers.
 -- Assumes nothing.
-use Prim.Native.Nat.{ℕ, suc, _+_, _-_, _*_, _/_, _%_, _≤_, _<_}
-use mathlib.Core.Path.{_≡_, refl, sym, ap, ap₂, _∙_}
+use Prim.Native.Nat.{ℕ, zero, suc, _+_, _-_, _*_, _/_, _%_, _≤_, _<_}
+use mathlib.Core.Path.{_≡_, refl, sym, ap, _∙_}
 use mathlib.Core.Bool.{cond}
 use mathlib.Core.List.{List, [], _∷_, _++_, map, map-append, append-assoc}
 use native.Mathlib.Omega.{arith}
 use native.Mathlib.Numerals.{add-one}
 use lib.Dec.{eqb}
-use lib.ListN.{length, getD, take, drop, set, length-append, length-drop, length-map, drop-of-length-le}
-use lib.Seq.{sets, sets-eq, getD-drop, drop-cons, drop-drop, drop-at, take-all, take-nil}
+use lib.ListN.{length, getD, take, drop, set, length-append, length-drop, length-map, length-set, drop-of-length-le}
+use lib.Seq.{sets, set-set, set-comm, getD-drop, drop-cons, drop-drop, drop-at, take-all, take-nil}
 use Rattle.rules.specs.Base.{All, one}
 use Rattle.rules.specs.Systems.{System, system}
 use Rattle.rules.specs.Packet.{Packet, body, word, words, coded, checkOf, Sound}
-use Rattle.rules.specs.Danc.{written, header, behind, danc, string, bytesOf, stringBytes}
+use Rattle.rules.specs.Danc.{written, header, behind, danc, string, bytesOf}
 use Rattle.rules.specs.Sheet.{locations, allWords, countIn, locationsIn, wordsIn}
 use Rattle.rules.specs.Laying.{low}
 use Rattle.rules.specs.Demands.{SheetOf}
@@ -23,10 +23,10 @@ use Rattle.rules.proofs.Basics.{rest-part}
 use Rattle.rules.proofs.Blocks.{facts-of}
 use Rattle.rules.proofs.Lines.{allowed-last}
 use Rattle.rules.proofs.Sheets.{locations-back, words-back}
-use Rattle.rules.proofs.Words.{low-word, packet-words, words-room, map-low}
+use Rattle.rules.proofs.Words.{low-word, packet-words, map-low}
 use Rattle.rules.proofs.Strings.{danc-length}
 use Rattle.danc.proofs.Laws.{header-written}
-use Rattle.sections.specs.Sections.{Ends, SectionsOf, Heads, LaysString}
+use Rattle.sections.specs.Sections.{SectionsOf, Sections, LaysString}
 
 -- ---- low bytes
 
@@ -83,30 +83,6 @@ module _ (ws : List ℕ) (at : ℕ) where
   unfolding words coded
   dc-there p r many e = ap low (sym (getD-drop at ws 5 0) ∙ ap (λ (t : List ℕ). getD t 5 0) e) ∙ low-word (length (p .user)) many
 
-  -- fewer than 7 words are left
-  pub too-short : length ws < at + 7 → Ends ws at 0
-  too-short h = record {
-    within = omega arith;
-    after = λ k. absurd (omega arith);
-    whole = λ p r many e. absurd (let l = packet-there p r e in omega arith);
-  }
-
-  module _ (dc : ℕ) (is : dc ≡ low (getD ws (at + 5) 0)) where
-    -- fewer than DC + 7 words are left
-    pub cut-off : length ws < at + dc + 7 → Ends ws at 0
-    cut-off h = record {
-      within = omega arith;
-      after = λ k. absurd (omega arith);
-      whole = λ p r many e. absurd (let l = packet-there p r e in let m = dc-there p r many e in omega arith);
-    }
-
-    pub ends-there : at + dc + 7 ≤ length ws → Ends ws at (at + dc + 7)
-    ends-there h = record {
-      within = h;
-      after = λ k. omega arith;
-      whole = λ p r many e. let m = dc-there p r many e in omega arith;
-    }
-
 -- ---- what a sound packet's words give
 
 module _ (y : System) (p : Packet) (g : Sound y p) where
@@ -147,7 +123,7 @@ module _ (y : System) (ls ws : List ℕ) where
   pub left-all : (ps : List Packet) → SectionsOf y ps ls ws → Left y ls ws 0 0 ps
   left-all ps h = record { sound = h .sound; pairs = h .sectionB; there = h .sectionC }
 
-  pub left-none : (k at : ℕ) (left : List Packet) → Left y ls ws k at left → length ls ≤ k + 1 → left ≡ []
+  pub left-none : (k at : ℕ) (left : List Packet) → Left y ls ws k at left → length ls ≤ k → left ≡ []
   left-none k at [] l h = refl
   left-none k at (p ∷ qs) l h = absurd (let d = length-drop k ls in let m = ap length (l .pairs) in omega arith)
 
@@ -182,12 +158,12 @@ module _ (y : System) (ls ws : List ℕ) where
       → (at + (low (getD ws (at + 5) 0) + 7) ≤ length ws) × (k + 2 ≤ length ls)
   next-inside k at left n = let w = n .within in let d = n .dc in (omega arith, n .pair)
 
-  -- where the next packet ends, those that are left then begin
-  module _ (k at end : ℕ) (left : List Packet) (n : Next y ls ws k at left) (e : Ends ws at end) where
-    pub next-ends : end ≡ at + bytesOf (n .packet)
-    next-ends = e .whole (n .packet) (allWords (n .rest)) (n .sound .many) (n .there)
+  -- its DC + 7 words, and behind them those that are left then
+  module _ (k at dc : ℕ) (left : List Packet) (n : Next y ls ws k at left) (size : dc ≡ low (getD ws (at + 5) 0)) where
+    next-ends : at + (dc + 7) ≡ at + bytesOf (n .packet)
+    next-ends = let d = n .dc in omega arith
 
-    pub next-after : Left y ls ws (k + 2) end (n .rest)
+    pub next-after : Left y ls ws (k + 2) (at + (dc + 7)) (n .rest)
     next-after = rw next-ends (n .after)
 
 -- ---- their header bytes
@@ -208,125 +184,120 @@ header-next y hm n e0 e1 =
 
 -- ---- a loop that lays headers
 
--- three stores over what stands behind a front
-three-over : (front : List ℕ) (a b c : ℕ) (t : List ℕ) (x y z : ℕ)
-    → set (set (set (front ++ a ∷ b ∷ c ∷ t) (length front) x) (length front + 1) y) (length front + 2) z ≡ front ++ x ∷ y ∷ z ∷ t
-three-over [] a b c t x y z = refl
-three-over (d ∷ front) a b c t x y z =
-    let e1 : suc (length front) + 1 ≡ suc (length front + 1) = omega arith in
-    let e2 : suc (length front) + 2 ≡ suc (length front + 2) = omega arith in
-    rw (e1, e2) (ap (λ (l : List ℕ). d ∷ l) (three-over front a b c t x y z))
+-- a store before a run of stores, and over one of them
+set-before : (l vs : List ℕ) (i j v : ℕ) → i < j → set (sets l j vs) i v ≡ sets (set l i v) j vs
+set-before l [] i j v h = refl
+set-before l (a ∷ vs) i j v h =
+    set-before (set l j a) vs i (suc j) v (omega arith)
+    ∙ ap (λ (t : List ℕ). sets t (suc j) vs) (set-comm l j i a v (λ e. absurd (omega arith)))
 
--- a packet's low bytes, with its header over the flag's
-header-over : (y : System) (p : Packet) → Sound y p → (front ws r : List ℕ) (h0 h1 : ℕ) → header (written p) ≡ h0 ∷ h1 ∷ 0xFF ∷ []
-    → set (set (set (front ++ (map low (words p ++ ws) ++ r)) (length front) h0) (length front + 1) h1) (length front + 2) 0xFF
-    ≡ (front ++ danc (written p)) ++ (map low ws ++ r)
+set-over : (l vs : List ℕ) (i j n v : ℕ) → n ≡ i + j → j < length vs → set (sets l i vs) n v ≡ sets l i (set vs j v)
+set-over l [] i j n v is h = absurd (omega arith)
+set-over l (a ∷ vs) i zero n v is h =
+    let e : n ≡ i = omega arith in
+    rw e (set-before (set l i a) vs i (suc i) v (omega arith) ∙ ap (λ (t : List ℕ). sets t (suc i) vs) (set-set l i a v))
+set-over l (a ∷ vs) i (suc j) n v is h = set-over (set l i a) vs (suc i) j n v (omega arith) (omega arith)
+
+-- a packet's low bytes, with its first header bytes over the flag's: the third stands there
+header-over : (y : System) (p : Packet) → Sound y p → (front ws : List ℕ) (h0 h1 : ℕ) → header (written p) ≡ h0 ∷ h1 ∷ 0xFF ∷ []
+    → set (set (front ++ map low (words p ++ ws)) (length front) h0) (length front + 1) h1 ≡ (front ++ danc (written p)) ++ map low ws
 unfolding words danc
-header-over y p g front ws r h0 h1 e =
-    three-over front (low 0x000) (low 0x3FF) (low 0x3FF) (map low ((coded p ++ checkOf p ∷ []) ++ ws) ++ r) h0 h1 0xFF
-    ∙ ap (λ (t : List ℕ). front ++ h0 ∷ h1 ∷ 0xFF ∷ (t ++ r))
+header-over y p g front ws h0 h1 e =
+    two-over front (low 0x000) (low 0x3FF) (low 0x3FF ∷ map low ((coded p ++ checkOf p ∷ []) ++ ws)) h0 h1
+    ∙ ap (λ (t : List ℕ). front ++ h0 ∷ h1 ∷ 0xFF ∷ t)
     (map-append low (coded p ++ checkOf p ∷ []) ws ∙ ap (λ (t : List ℕ). t ++ map low ws) (low-behind y p g))
-    ∙ ap (λ (t : List ℕ). front ++ h0 ∷ h1 ∷ 0xFF ∷ t) (append-assoc (behind p) (map low ws) r)
-    ∙ ap (λ (t : List ℕ). front ++ ((t ++ behind p) ++ (map low ws ++ r))) (sym e)
-    ∙ sym (append-assoc front (header (written p) ++ behind p) (map low ws ++ r))
+    ∙ ap (λ (t : List ℕ). front ++ ((t ++ behind p) ++ map low ws)) (sym e)
+    ∙ sym (append-assoc front (header (written p) ++ behind p) (map low ws))
+  where
+    two-over : (front : List ℕ) (a b : ℕ) (t : List ℕ) (x z : ℕ)
+        → set (set (front ++ a ∷ b ∷ t) (length front) x) (length front + 1) z ≡ front ++ x ∷ z ∷ t
+    two-over [] a b t x z = refl
+    two-over (d ∷ front) a b t x z =
+        let e : suc (length front) + 1 ≡ suc (length front + 1) = omega arith in
+        rw e (ap (λ (l : List ℕ). d ∷ l) (two-over front a b t x z))
 
--- the string as far as it is laid, and low bytes behind it
-record HeadsLeft (y : System) (ps : List Packet) (r ls ws s : List ℕ) (k at : ℕ) : Type 0 where
+-- the string as far as it is laid, and low bytes behind it, where the low bytes of all words were stored before
+record HeadsLeft (y : System) (ps : List Packet) (ls ws s₀ s : List ℕ) (k at : ℕ) : Type 0 where
   left : List Packet
   is : Left y ls ws k at left
   front : List ℕ
   long : length front ≡ at
-  bytes : s ≡ front ++ (map low (allWords left) ++ r)
-  goal : front ++ (string (map written left) ++ r) ≡ string (map written ps) ++ r
+  goal : front ++ string (map written left) ≡ string (map written ps)
+  bytes : (before : List ℕ) → s₀ ≡ sets before 0 (map low ws) → s ≡ sets before 0 (front ++ map low (allWords left))
 
 pub record HeadsSoFar (ls ws s₀ s : List ℕ) (k at : ℕ) : Type 0 where
-  of : (y : System) (ps : List Packet) (r : List ℕ) → SectionsOf y ps ls ws → s₀ ≡ map low ws ++ r → HeadsLeft y ps r ls ws s k at
+  of : (y : System) (ps : List Packet) → SectionsOf y ps ls ws → HeadsLeft y ps ls ws s₀ s k at
 
 pub heads-begin : {ls ws s : List ℕ} → HeadsSoFar ls ws s s 0 0
 heads-begin {ls} {ws} = record {
-  of = λ y ps r h e. record {
+  of = λ y ps h. record {
     left = ps;
     is = left-all y ls ws ps h;
     front = [];
     long = refl;
-    bytes = e ∙ ap (λ (t : List ℕ). map low t ++ r) (h .sectionC);
     goal = refl;
+    bytes = λ before e. e ∙ ap (λ (t : List ℕ). sets before 0 (map low t)) (h .sectionC);
   };
 }
 
-module _ {ls ws s : List ℕ} {k at end : ℕ} (more : k + 1 < length ls) (e : Ends ws at end) where
-  module _ (y : System) (ps : List Packet) (r : List ℕ) (f : HeadsLeft y ps r ls ws s k at) where
-    next-head : Next y ls ws k at (f .left)
-    next-head = next-of y ls ws k at (f .left) (f .is) (omega arith)
+module _ {ls ws s₀ s : List ℕ} {k at : ℕ} (so : HeadsSoFar ls ws s₀ s k at) where
+  module _ (more : k < length ls) where
+    next-head : (y : System) (ps : List Packet) (h : SectionsOf y ps ls ws) → Next y ls ws k at (so .of y ps h .left)
+    next-head y ps h = let f = so .of y ps h in next-of y ls ws k at (f .left) (f .is) more
 
-    head-turn : y .last < 2047 → (n : Next y ls ws k at (f .left)) {h0 h1 : ℕ} → h0 ≡ headByte0 (getD ls k 0)
-        → h1 ≡ headByte1 (getD ls k 0) (getD ls (k + 1) 0)
-        → HeadsLeft y ps r ls ws (set (set (set s at h0) (at + 1) h1) (at + 2) 0xFF) (k + 2) end
-    head-turn hm n {h0} {h1} e0 e1 =
-        let p : Packet = n .packet in
-        let qs : List Packet = n .rest in
-        let l = length-append (f .front) (danc (written p)) in
-        let d = danc-length (written p) in
-        let b : s ≡ f .front ++ (map low (words p ++ allWords qs) ++ r) =
-        f .bytes ∙ ap (λ (t : List Packet). f .front ++ (map low (allWords t) ++ r)) (n .is) in
-        record {
-          left = qs;
-          is = next-after y ls ws k at end (f .left) n e;
-          front = f .front ++ danc (written p);
-          long = let w = next-ends y ls ws k at end (f .left) n e in let m = f .long in omega arith;
-          bytes =
-              ap₂ (λ (t : List ℕ) (m : ℕ). set (set (set t m h0) (m + 1) h1) (m + 2) 0xFF) b (sym (f .long))
-              ∙ header-over y p (n .sound) (f .front) (allWords qs) r h0 h1 (header-next y hm n e0 e1);
-          goal =
-              append-assoc (f .front) (danc (written p)) (string (map written qs) ++ r)
-              ∙ ap (λ (t : List ℕ). f .front ++ t) (sym (append-assoc (danc (written p)) (string (map written qs)) r))
-              ∙ ap (λ (t : List Packet). f .front ++ (string (map written t) ++ r)) (sym (n .is))
-              ∙ f .goal;
-        }
-
-  module _ {s₀ : List ℕ} (so : HeadsSoFar ls ws s₀ s k at) where
-    -- no packet is missing
-    pub heads-whole : end ≡ 0 → Heads ls ws s₀ s
-    heads-whole z = record {
-      laid = λ y ps r h b. absurd (
-          let f = so .of y ps r h b in
-          let w = next-ends y ls ws k at end (f .left) (next-head y ps r f) e in
-          omega arith
-          );
-    }
+    -- the next packet stands in the sections
+    pub heads-inside : Sections ls ws → (at + (low (getD ws (at + 5) 0) + 7) ≤ length ws) × (k + 2 ≤ length ls)
+    heads-inside v = next-inside (v .system) ls ws k at _ (next-head (v .system) (v .packets) (v .of))
 
     -- one header more
-    pub heads-turn : {h0 h1 : ℕ} → h0 ≡ headByte0 (getD ls k 0) → h1 ≡ headByte1 (getD ls k 0) (getD ls (k + 1) 0)
-        → HeadsSoFar ls ws s₀ (set (set (set s at h0) (at + 1) h1) (at + 2) 0xFF) (k + 2) end
-    heads-turn e0 e1 = record {
-      of = λ y ps r h b. let f = so .of y ps r h b in head-turn y ps r f (h .last) (next-head y ps r f) e0 e1;
-    }
+    pub heads-turn : {dc h0 h1 : ℕ} → dc ≡ low (getD ws (at + 5) 0) → h0 ≡ headByte0 (getD ls k 0)
+        → h1 ≡ headByte1 (getD ls k 0) (getD ls (k + 1) 0)
+        → HeadsSoFar ls ws s₀ (set (set s at h0) (at + 1) h1) (k + 2) (at + (dc + 7))
+    heads-turn {dc} {h0} {h1} size e0 e1 = record { of = λ y ps h. turn y ps h (so .of y ps h) (next-head y ps h) }
+      where
+        turn : (y : System) (ps : List Packet) → SectionsOf y ps ls ws → (f : HeadsLeft y ps ls ws s₀ s k at) → Next y ls ws k at (f .left)
+            → HeadsLeft y ps ls ws s₀ (set (set s at h0) (at + 1) h1) (k + 2) (at + (dc + 7))
+        turn y ps h f n =
+            let p : Packet = n .packet in
+            let qs : List Packet = n .rest in
+            let v : List ℕ = f .front ++ map low (words p ++ allWords qs) in
+            let l = length-append (f .front) (danc (written p)) in
+            let d = danc-length (written p) in
+            let m = f .long in
+            let two : at + 2 ≤ length v =
+            let a = length-append (f .front) (map low (words p ++ allWords qs)) in
+            let b = length-map (words p ++ allWords qs) low in
+            let c = length-append (words p) (allWords qs) in
+            let w = packet-words p in
+            omega arith in
+            let z = length-set v at h0 in
+            record {
+              left = qs;
+              is = next-after y ls ws k at dc (f .left) n size;
+              front = f .front ++ danc (written p);
+              long = let w = next-ends y ls ws k at dc (f .left) n size in omega arith;
+              goal =
+                  append-assoc (f .front) (danc (written p)) (string (map written qs))
+                  ∙ ap (λ (t : List Packet). f .front ++ string (map written t)) (sym (n .is))
+                  ∙ f .goal;
+              bytes = λ before e.
+                  ap (λ (t : List ℕ). set (set t at h0) (at + 1) h1)
+                  (f .bytes before e ∙ ap (λ (t : List Packet). sets before 0 (f .front ++ map low (allWords t))) (n .is))
+                  ∙ ap (λ (t : List ℕ). set t (at + 1) h1) (set-over before v 0 at at h0 (omega arith) (omega arith))
+                  ∙ set-over before (set v at h0) 0 (at + 1) (at + 1) h1 (omega arith) (omega arith)
+                  ∙ ap (sets before 0)
+                  (ap (λ (m : ℕ). set (set v m h0) (m + 1) h1) (sym (f .long))
+                  ∙ header-over y p (n .sound) (f .front) (allWords qs) h0 h1 (header-next y (h .last) n e0 e1));
+            }
 
--- all headers are laid
-pub heads-done : {ls ws s₀ s : List ℕ} {k at : ℕ} → length ls ≤ k + 1 → HeadsSoFar ls ws s₀ s k at → Heads ls ws s₀ s
-heads-done {ls} {ws} {s₀} {s} {k} {at} end so = record { laid = λ y ps r h b. done y ps r (so .of y ps r h b) }
-  where
-    done : (y : System) (ps : List Packet) (r : List ℕ) → HeadsLeft y ps r ls ws s k at → s ≡ string (map written ps) ++ r
-    done y ps r f =
-        let n : f .left ≡ [] = left-none y ls ws k at (f .left) (f .is) end in
-        f .bytes
-        ∙ ap (λ (t : List Packet). f .front ++ (map low (allWords t) ++ r)) n
-        ∙ ap (λ (t : List Packet). f .front ++ (string (map written t) ++ r)) (sym n)
-        ∙ f .goal
-
--- ---- the string
-
--- one that is too long for the buffer is not asked for
-pub string-fits : {ls ws s : List ℕ} → 9000 < length ws → LaysString ls ws s s
-string-fits over = record { laid = λ y ps h r. absurd (let l = ap length (h .sectionC) in let w = words-room ps in omega arith) }
-
--- low bytes, and headers over them
-pub string-laid : {ls ws s bytes after : List ℕ} → length s ≡ 9000 → length ws ≤ 9000 → bytes ≡ sets s 0 (map low ws) → Heads ls ws bytes after
-    → LaysString ls ws s after
-string-laid {ls} {ws} {s} {bytes} {after} long fit e heads = record {
-  laid = λ y ps h r.
-      let m = length-map ws low in
-      let n : 0 + length (map low ws) ≡ stringBytes ps = let l = ap length (h .sectionC) in let w = words-room ps in omega arith in
-      heads .laid y ps (drop (stringBytes ps) s) h
-      (e ∙ sets-eq (map low ws) s 0 (omega arith) ∙ ap (λ (k : ℕ). map low ws ++ drop k s) n);
-}
+  -- all headers are laid
+  pub heads-done : length ls ≤ k → (before : List ℕ) → s₀ ≡ sets before 0 (map low ws) → LaysString ls ws before s
+  heads-done end before e = record { laid = λ y ps h. done y ps (so .of y ps h) }
+    where
+      done : (y : System) (ps : List Packet) → HeadsLeft y ps ls ws s₀ s k at → s ≡ sets before 0 (string (map written ps))
+      done y ps f =
+          let n : f .left ≡ [] = left-none y ls ws k at (f .left) (f .is) end in
+          f .bytes before e
+          ∙ ap (λ (t : List Packet). sets before 0 (f .front ++ map low (allWords t))) n
+          ∙ ap (λ (t : List Packet). sets before 0 (f .front ++ string (map written t))) (sym n)
+          ∙ ap (sets before 0) (f .goal)

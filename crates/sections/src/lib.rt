@@ -1,23 +1,20 @@
-// The sections B and C of a sheet (document 01, "The sheet") as the calls that lay and write take them: where they stand, where each packet of
-// section C ends, and the string that they give (001, figure 6). What is said of a list is said for every list whose sections these are: the
-// sheet's tests have passed before, and the code keeps itself safe where they have not. Quotations are from document 01.
+// The sections B and C of a sheet (document 01, "The sheet") as the calls that lay and write take them: where they stand, and the string that
+// they give (001, figure 6). The sheet has passed its tests before the string is laid, so no packet is tested again. Quotations are from
+// document 01.
 use danc::head0;
 use danc::head1;
 use frame::Line;
 use packet::low;
 use packet::low_byte;
 use sheet::wide;
-ghost use Prim.Native.Nat.{_≤_};
+ghost use Prim.Native.Nat.{ℕ, _≤_};
 ghost use mathlib.Core.Path.{_≡_};
-ghost use mathlib.Core.List.{map};
+ghost use mathlib.Core.List.{List, map};
 ghost use lib.ListN.{length};
 ghost use lib.Seq.{sets};
 ghost use Rattle.rules.specs.Sheet.{locationsIn, wordsIn};
 ghost use Rattle.rules.specs.Laying.{low};
-ghost use Rattle.sections.specs.Sections.{Ends, Heads, LaysString};
-
-// "Reserved bits are written 1".
-const RESERVED: u8 = 0xFF;
+ghost use Rattle.sections.specs.Sections.{Sections, LaysString};
 
 // "B: the count P of locations, then P pairs": the pairs.
 pub fn section_b(sheet: &[u16]) -> &[u16]
@@ -47,23 +44,6 @@ pub fn section_c(sheet: &[u16]) -> &[u16]
     &sheet[first..]
 }
 
-// Where the packet at a place ends: it has DC + 7 words. 0 where no whole packet stands there.
-pub fn end_of(ws: &[u16], at: usize) -> usize
-    ensures { λ r. ⌜ Ends (now (ws .entry)) at r ⌝ }
-{
-    if ws.len() < 7 {
-        return 0;
-    }
-    if ws.len() - 7 < at {
-        return 0;
-    }
-    let end = at + low_byte(ws[at + 5]) + 7;
-    if ws.len() < end {
-        return 0;
-    }
-    end
-}
-
 // The low byte of each word: of the flags too, where header bytes are laid later.
 fn low_bytes(ws: &[u16], s: &mut [u8; 9000])
     requires { ⌜ length (now ws) ≤ 9000 ⌝ }
@@ -76,23 +56,21 @@ fn low_bytes(ws: &[u16], s: &mut [u8; 9000])
     }
 }
 
-// "Three header bytes stand in place of the flag" (001, figure 6).
+// "Three header bytes stand in place of the flag" (001, figure 6), in one packet of DC + 7 words after the other. "Header byte 2: reserved"
+// stands there already: FFh is the low byte of the flag's last word, 3FFh.
 fn lay_heads(ls: &[u16], ws: &[u16], s: &mut [u8; 9000])
-    requires { ⌜ length (now ws) ≤ 9000 ⌝ }
-    ensures { λ _. ⌜ Heads (now (ls .entry)) (now (ws .entry)) (now (s .entry)) (now (s .exit)) ⌝ }
+    requires { ⌜ Sections (now ls) (now ws) × (length (now ws) ≤ 9000) ⌝ }
+    ensures { λ _. ⌜ ((before : List ℕ) → now (s .entry) ≡ sets before 0 (map low (now (ws .entry)))
+        → LaysString (now (ls .entry)) (now (ws .entry)) before (now (s .exit))) ⌝ }
 {
     let mut k = 0;
     let mut at = 0;
-    while k + 1 < ls.len() {
-        let end = end_of(ws, at);
-        if end == 0 {
-            return;
-        }
+    while k < ls.len() {
+        let dc = low_byte(ws[at + 5]);
         let line = Line(ls[k]);
         s[at] = head0(line);
         s[at + 1] = head1(line, ls[k + 1]);
-        s[at + 2] = RESERVED;
-        at = end;
+        at += dc + 7;
         k += 2;
     }
 }
@@ -100,11 +78,9 @@ fn lay_heads(ls: &[u16], ws: &[u16], s: &mut [u8; 9000])
 // "A string is nothing, or one packet and then a string that is shorter by that packet": DANC packets back to back (001, figure 6).
 // One pass over all words and then the headers, since short runs of bytes are slower than one long one.
 pub fn string_of(ls: &[u16], ws: &[u16], s: &mut [u8; 9000])
+    requires { ⌜ Sections (now ls) (now ws) × (length (now ws) ≤ 9000) ⌝ }
     ensures { λ _. ⌜ LaysString (now (ls .entry)) (now (ws .entry)) (now (s .entry)) (now (s .exit)) ⌝ }
 {
-    if s[..].len() < ws.len() {
-        return;
-    }
     low_bytes(ws, s);
     lay_heads(ls, ws, s);
 }

@@ -9,8 +9,8 @@ use mathlib.Core.List.{List, [], _++_, append-assoc, map}
 use native.Mathlib.Nat.{sub-zero}
 use native.Mathlib.Omega.{arith}
 use lib.Dec.{eqb}
-use lib.ListN.{length, take, drop, replicate-append-replicate}
-use lib.Seq.{take-at, drop-at}
+use lib.ListN.{length, take, drop, length-replicate, replicate-append-replicate}
+use lib.Seq.{sets, sets-eq, take-at, drop-at}
 use borrow.Author.Tests.{leb-true, le-leb, lt-leb, eqb-true, eq-eqb, ne-eqb}
 use Rattle.rules.specs.Base.{sum, joined}
 use Rattle.rules.specs.Systems.{System, known, system}
@@ -24,7 +24,7 @@ use Rattle.rules.specs.Packings.{isPacking, userBytes, laidBytes, capacity, nee
 use Rattle.rules.specs.Numbers.{listed, refused, unless}
 use Rattle.rules.specs.Laying.{wordAt, shaped, laidOf, laidWith, laidIn, areaOf}
 use Rattle.rules.specs.Lister.{testedOf}
-use Rattle.rules.specs.Demands.{Tests, Lays}
+use Rattle.rules.specs.Demands.{SheetOf, Tests, Lays}
 use Rattle.rules.specs.declared.Laid.{Laid}
 use Rattle.rules.specs.declared.Tested.{Tested}
 use Rattle.rules.proofs.Basics.{written-back}
@@ -38,11 +38,11 @@ use Rattle.frame.specs.Systems.{figuresOf}
 use Rattle.frame.specs.Bytes.{areaWith}
 use Rattle.frame.specs.declared.Figures.{Figures}
 use Rattle.frame.proofs.Laws.{area-is}
-use Rattle.sections.specs.Sections.{SectionsOf, LaysString}
+use Rattle.sections.specs.Sections.{SectionsOf, Sections, LaysString}
 use Rattle.sections.proofs.Laws.{sections-of}
-use Rattle.packing1.specs.Fives.{LaysFives}
+use Rattle.packing1.specs.Fives.{Roomy, LaysFives}
 use Rattle.packing2.specs.Long.{Padded, longFits, longAfter, CountOf}
-use Rattle.vanc.specs.Lay.{LaysInto, lastTest, LaysList}
+use Rattle.vanc.specs.Lay.{LaysInto, lastTest, Passed, LaysList}
 
 -- ---- fill
 
@@ -56,6 +56,13 @@ fill-parts : (n k m : ℕ) → k ≤ m → m ≤ n → drop k (fill n) ≡ fill 
 fill-parts n k m h g =
     let e : n - k ≡ m - k + (n - m) = omega arith in
     rw (drop-fill k n, e) (sym (replicate-append-replicate (m - k) (n - m) 0xFF))
+
+-- bytes stored over fill, from the front on
+over-fill : (n k : ℕ) (s : List ℕ) → length s ≡ k → k ≤ n → sets (fill n) 0 s ≡ s ++ drop k (fill n)
+over-fill n k s e h =
+    let l : length (fill n) ≡ n = length-replicate n 0xFF in
+    let z : 0 + length s ≡ k = omega arith in
+    sets-eq s (fill n) 0 (omega arith) ∙ ap (λ (m : ℕ). s ++ drop m (fill n)) z
 
 -- ---- the frame
 
@@ -95,13 +102,13 @@ fits1 : (sys : ℕ) (ps : List Packet) → fits 1 (blockSizes (system sys)) ps �
 unfolding needed capacity
 fits1 sys ps f = leb-true (sum (map packsOf ps)) (sum (blockSizes (system sys)) / 5) f
 
+packs-bytes : (ps : List Packet) → length (flat (joined packs (map written ps))) ≡ 5 * sum (map packsOf ps)
+packs-bytes ps = flat-length (joined packs (map written ps)) ∙ ap (λ (m : ℕ). 5 * m) (sym (packs-laid-counted ps))
+
 bytes1 : (sizes : List ℕ) (ps : List Packet)
     → laidBytes 1 sizes ps ≡ flat (joined packs (map written ps)) ++ fill (sum sizes - 5 * sum (map packsOf ps))
 unfolding userBytes
-bytes1 sizes ps =
-    let l : length (flat (joined packs (map written ps))) ≡ 5 * sum (map packsOf ps) =
-    flat-length (joined packs (map written ps)) ∙ ap (λ (m : ℕ). 5 * m) (sym (packs-laid-counted ps)) in
-    ap (λ (m : ℕ). flat (joined packs (map written ps)) ++ fill (sum sizes - m)) l
+bytes1 sizes ps = ap (λ (m : ℕ). flat (joined packs (map written ps)) ++ fill (sum sizes - m)) (packs-bytes ps)
 
 -- the packs over fill are the list's user bytes, and fill behind them
 pub laid1 : (sys : ℕ) (ls ws us area after : List ℕ) → LaysFives ls ws (fill 9360) us → after ≡ areaWith sys us area
@@ -118,8 +125,10 @@ laid1 sys ls ws us area after w a = record { laid = done }
         let h = fits1 sys ps f in
         let b = small-of sys .0 in
         let i : n ≤ m = omega arith in
+        let l = packs-bytes ps in
         let e : us ≡ laidBytes 1 (blockSizes (system sys)) ps ++ fill (9360 - m) =
-        w .laid (system sys) ps sec (omega arith)
+        w .laid (system sys) ps sec
+        ∙ over-fill 9360 n P l (omega arith)
         ∙ ap (λ (t : List ℕ). P ++ t) (fill-parts 9360 n m i b)
         ∙ sym (append-assoc P (fill (m - n)) (fill (9360 - m)))
         ∙ ap (λ (t : List ℕ). t ++ fill (9360 - m)) (sym (bytes1 (blockSizes (system sys)) ps)) in
@@ -151,8 +160,8 @@ laid2 sys ls ws s area after w v = record { laid = done }
         let l : length ws ≡ stringBytes ps = ap length (sec .sectionC) ∙ words-room ps in
         let m : length (string (map written ps)) ≡ length ws = sym (l ∙ bytes-counted ps) in
         let e : s ≡ string (map written ps) ++ fill (9000 - length ws) =
-        w .laid (system sys) ps sec (omega arith)
-        ∙ ap (λ (n : ℕ). string (map written ps) ++ drop n (fill 9000)) (sym l)
+        w .laid (system sys) ps sec
+        ∙ over-fill 9000 (length ws) (string (map written ps)) m (omega arith)
         ∙ ap (λ (t : List ℕ). string (map written ps) ++ t) (drop-fill (length ws) 9000) in
         let p : Padded (length ws) s = ap (drop (length ws)) e ∙ drop-at (string (map written ps)) (fill (9000 - length ws)) (length ws) m in
         let t : take (length ws) s ≡ string (map written ps) =
@@ -174,6 +183,31 @@ module _ (sys : ℕ) (ps : List Packet) (t : Tested) (e : t ≡ testedOf sys (li
   room2 : (g .«string_bytes» ≡ capacity 2 (blockSizes (system sys))) × (t .bytes ≡ needed 2 ps)
   unfolding figuresOf needed
   room2 = (ap (λ (h : Figures). h .«string_bytes») (x ∙ ap figuresOf its), ap (λ (v : Tested). v .bytes) e)
+
+-- the sections of a list that is within the room, as the calls that lay them ask
+module _ (t : Tested) (s : List ℕ) (p : Passed t s) (g : Figures) (x : g ≡ figuresOf (t .system)) {ls ws : List ℕ} (b : ls ≡ locationsIn s)
+    (c : ws ≡ wordsIn s) where
+  abbrev its-sections : Sections ls ws
+  its-sections = record { system = system (t .system); packets = p .packets; of = sections-of b c (p .sheet) }
+
+  pub roomy1 : t .packs ≤ g .packs → Roomy ls ws
+  roomy1 h =
+      let sys = t .system in
+      let ps = p .packets in
+      let w = room1 sys ps t (p .figures) g x in
+      let f = fits1 sys ps (le-leb (needed 1 ps) (capacity 1 (blockSizes (system sys))) (omega arith)) in
+      let m = small-of sys .0 in
+      record { sections = its-sections; room = omega arith }
+
+  pub roomy2 : t .bytes ≤ g .«string_bytes» → Sections ls ws × (length ws ≤ 9000)
+  roomy2 h =
+      let sys = t .system in
+      let ps = p .packets in
+      let w = room2 sys ps t (p .figures) g x in
+      let f = fits2 sys ps (le-leb (needed 2 ps) (capacity 2 (blockSizes (system sys))) (omega arith)) in
+      let m = small-of sys .1 in
+      let l : length ws ≡ stringBytes ps = ap length (its-sections .of .sectionC) ∙ words-room ps in
+      (its-sections, omega arith)
 
 abbrev success : ℕ → ℕ → Laid
 success n bytes = record { number = 0; place = 0; word = 0; packs = n; bytes = bytes }
@@ -288,6 +322,18 @@ module _ (k : ℕ) (s area : List ℕ) where
     module _ (n2 : t .number ≡ 2 → ⊥) (n3 : t .number ≡ 3 → ⊥) where
       pub is-shaped : shaped s ≡ true
       is-shaped = past-system k s area pk t w n2 n3 .0
+
+-- a sheet that passes is the sheet of a list
+pub passed : (s : List ℕ) (t : Tested) → Tests s t → t .number ≡ 0 → Passed t s
+passed s t w n =
+    let o = w .only n in
+    let f = w .passes (o .0) (o .1) (o .2) in
+    let e : o .0 ≡ t .system = sym (ap (λ (v : Tested). v .system) f) in
+    record {
+      packets = o .1;
+      sheet = subst (λ (m : ℕ). SheetOf m (o .1) s) e (o .2);
+      figures = f ∙ ap (λ (m : ℕ). testedOf m (listed (o .1))) e;
+    }
 
 -- what is known past these, where the figures are the system's
 pub record Past (k : ℕ) (s : List ℕ) (t : Tested) (g : Figures) : Type 0 where

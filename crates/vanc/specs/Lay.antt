@@ -12,7 +12,7 @@ use Rattle.rules.specs.Packings.{laidBytes, fits}
 use Rattle.rules.specs.Numbers.{Outcome, listed, unless}
 use Rattle.rules.specs.Laying.{laidOf, areaOf}
 use Rattle.rules.specs.Lister.{testedOf}
-use Rattle.rules.specs.Demands.{Asked}
+use Rattle.rules.specs.Demands.{SheetOf, Asked}
 use Rattle.rules.specs.declared.Laid.{Laid}
 use Rattle.rules.specs.declared.Tested.{Tested}
 use Rattle.sections.specs.Sections.{SectionsOf}
@@ -26,6 +26,12 @@ pub record LaysInto (k sys : ℕ) (ls ws area after : List ℕ) : Type 0 where
 -- the last test, and then the list
 abbrev pub lastTest : ℕ → ℕ → List Packet → Outcome
 lastTest k sys ps = unless 12 (fits k (blockSizes (system sys)) ps) (listed ps)
+
+-- s is the sheet of a list that passed the tests before the last, and t are the list's figures
+pub record Passed (t : Tested) (s : List ℕ) : Type 0 where
+  pub packets : List Packet
+  pub sheet : SheetOf (t .system) packets s
+  pub figures : t ≡ testedOf (t .system) (listed packets)
 
 -- what is given back, and the area afterwards, for a list that passed the tests before the last with the figures t
 pub record LaysList (k : ℕ) (t : Tested) (s area : List ℕ) (r : Laid) (after : List ℕ) : Type 0 where

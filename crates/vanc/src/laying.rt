@@ -3,12 +3,16 @@
 use rules::Laid;
 use rules::Tested;
 use sheet::wide;
+ghost use Prim.Native.Nat.{_≤_};
 ghost use mathlib.Core.Path.{_≡_};
+ghost use lib.ListN.{length};
 ghost use Rattle.rules.specs.Systems.{system};
 ghost use Rattle.rules.specs.Numbers.{refused};
 ghost use Rattle.rules.specs.Laying.{laidOf, laidWith};
 ghost use Rattle.rules.specs.Demands.{Lays};
-ghost use Rattle.vanc.specs.Lay.{LaysInto, LaysList};
+ghost use Rattle.sections.specs.Sections.{Sections};
+ghost use Rattle.packing1.specs.Fives.{Roomy};
+ghost use Rattle.vanc.specs.Lay.{LaysInto, Passed, LaysList};
 
 // "On refusal the later figures are 0". The word is the one that the sheet's tests name (document 02, A2).
 fn refusal(number: u64, place: u64, word: u64) -> Laid
@@ -25,6 +29,7 @@ fn refusal(number: u64, place: u64, word: u64) -> Laid
 
 // Packing 1. "All other user bytes are FFh": the user bytes begin as FFh, and the packs are laid over the first of them.
 fn lay1(system: u64, ls: &[u16], ws: &[u16], area: &mut [u8])
+    requires { ⌜ Roomy (now ls) (now ws) ⌝ }
     ensures { λ _. ⌜ LaysInto 1 system (now (ls .entry)) (now (ws .entry)) (now (area .entry)) (now (area .exit)) ⌝ }
 {
     let mut us = [0xFFu8; 9360];
@@ -34,6 +39,7 @@ fn lay1(system: u64, ls: &[u16], ws: &[u16], area: &mut [u8])
 
 // Packing 2. "A DANC packet has as many bytes as its VANC packet has words", so the words' number is the string's length.
 fn lay2(system: u64, ls: &[u16], ws: &[u16], area: &mut [u8])
+    requires { ⌜ Sections (now ls) (now ws) × (length (now ws) ≤ 9000) ⌝ }
     ensures { λ _. ⌜ LaysInto 2 system (now (ls .entry)) (now (ws .entry)) (now (area .entry)) (now (area .exit)) ⌝ }
 {
     let mut s = [0xFFu8; 9000];
@@ -43,6 +49,7 @@ fn lay2(system: u64, ls: &[u16], ws: &[u16], area: &mut [u8])
 
 // "12 | over the packs (packing 1) or string bytes (packing 2)", the last test: only then is the area written.
 fn lay_list(packing: u64, t: Tested, sheet: &[u16], area: &mut [u8]) -> Laid
+    requires { ⌜ Passed t (now sheet) ⌝ }
     ensures { λ r. ⌜ LaysList packing t (now (sheet .entry)) (now (area .entry)) r (now (area .exit)) ⌝ }
 {
     let figures = frame::figures_of(t.system);

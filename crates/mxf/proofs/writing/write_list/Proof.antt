@@ -7,8 +7,8 @@ use lib.Seq.{length-take-le}
 use borrow.Author.Needs.{needs}
 use Rattle.rules.specs.Systems.{system}
 use Rattle.rules.specs.Sheet.{limit}
+use Rattle.sections.specs.Sections.{Sections}
 use Rattle.sections.proofs.Laws.{sections-of}
-use Rattle.mxf.specs.Parts.{Sections}
 use Rattle.mxf.proofs.WritingLaws.{not-lined, no-room, measured, measured-small, element-written}
 use Rattle.mxf.proofs.writing.write_list.Statement.{statement}
 use Rattle.mxf.proofs.writing.write_list.Tie as tie

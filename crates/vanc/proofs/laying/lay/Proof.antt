@@ -8,7 +8,20 @@ use borrow.Author.Tests.{eqb-true, eqb-false, not-true, not-false}
 use Rattle.rules.specs.Laying.{shaped}
 use Rattle.rules.specs.Packings.{isPacking}
 use Rattle.sheet.proofs.Laws.{shaped-long}
-use Rattle.vanc.proofs.LayLaws.{packing-1, packing-2, no-packing, no-shape, no-system, is-shaped, Past, past-three, no-area, no-list, the-list}
+use Rattle.vanc.proofs.LayLaws.{
+  packing-1,
+  packing-2,
+  no-packing,
+  no-shape,
+  no-system,
+  is-shaped,
+  passed,
+  Past,
+  past-three,
+  no-area,
+  no-list,
+  the-list,
+}
 use Rattle.vanc.proofs.laying.lay.Statement.{statement}
 use Rattle.vanc.proofs.laying.lay.Tie as tie
 
@@ -81,7 +94,11 @@ returns-4 c =
     no-list _ _ _ _ _ (past (l .before .before)) (l .if5 .left) _ (c .before .if6 .taken) (c .refusal4 .ensures)
 
 lay-list-requires : tie.Need-lay-list-requires
-lay-list-requires c κs = search needs
+lay-list-requires c κs =
+    let n : tie.Else6 = c .before in
+    let f : tie.After-figures-of = n .before .before .before .before in
+    let t : tie.After-test = f .before .before .before .before .before .before .before in
+    passed _ _ (t .test .ensures) (n .if6 .left)
 
 same-length : tie.Need-same-length
 same-length c = search needs

@@ -1,6 +1,6 @@
 -- `vanc::laying::lay_list` meets its contract: for each packing the room, and then the list. Assumes nothing.
 use borrow.Author.Needs.{needs}
-use Rattle.vanc.proofs.LayLaws.{full1, done1, full2, done2}
+use Rattle.vanc.proofs.LayLaws.{roomy1, roomy2, full1, done1, full2, done2}
 use Rattle.vanc.proofs.laying.lay_list.Statement.{statement}
 use Rattle.vanc.proofs.laying.lay_list.Tie as tie
 
@@ -23,7 +23,11 @@ returns c =
     full1 _ _ _ _ (i .if1 .taken) _ (v .before .before .figures-of .ensures) _ (c .before .if2 .taken) (c .refusal .ensures)
 
 lay1-requires : tie.Need-lay1-requires
-lay1-requires c κs = search needs
+lay1-requires c κs =
+    let r : tie.Else2 = c .before in
+    let v : tie.After-section-c = r .before .before .before in
+    let f = v .before .before in
+    roomy1 _ _ (f .before .before .before .pre) _ (f .figures-of .ensures) (v .before .section-b .ensures) (v .section-c .ensures) (r .if2 .left)
 
 same-length : tie.Need-same-length
 same-length c = search needs
@@ -46,7 +50,11 @@ returns-3 c =
     full2 _ _ _ _ (i .if1 .left) _ (v .before .before .figures-of .ensures) _ (c .before .if3 .taken) (c .refusal2 .ensures)
 
 lay2-requires : tie.Need-lay2-requires
-lay2-requires c κs = search needs
+lay2-requires c κs =
+    let r : tie.Else3 = c .before in
+    let v : tie.After-section-c = r .before .before .before in
+    let f = v .before .before in
+    roomy2 _ _ (f .before .before .before .pre) _ (f .figures-of .ensures) (v .before .section-b .ensures) (v .section-c .ensures) (r .if3 .left)
 
 long-count-requires : tie.Need-long-count-requires
 long-count-requires c κs = search needs
