@@ -50,17 +50,21 @@ OUT_OF_LINE static void lay_fives(const list *sheet, uint8_t *bytes)
     }
 }
 
-OUT_OF_LINE static void make_string(const list *sheet, uint8_t *restrict string)
+OUT_OF_LINE static void make_string(const list *sheet, uint8_t *string)
 {
     const uint16_t *location = sheet->locations, *words = sheet->words;
     for (size_t k = 0; k < sheet->packets; k++, location += 2) {
-        size_t size = (words[5] & 0xFF) + 7u;
+        size_t user = words[5] & 0xFF;
         put_header(location[0], location[1], string);
         string[2] = 0xFF;
-        for (size_t i = 3; i < size; i++)
+        string[3] = (uint8_t)words[3];
+        string[4] = (uint8_t)words[4];
+        string[5] = (uint8_t)words[5];
+        string[6 + user] = (uint8_t)words[6 + user];
+        for (size_t i = 6; i < 6 + user; i++)
             string[i] = (uint8_t)words[i];
-        words += size;
-        string += size;
+        words += 7 + user;
+        string += 7 + user;
     }
 }
 

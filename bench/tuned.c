@@ -4,8 +4,8 @@
  */
 #include "common.h"
 
-/* So many 16-bit numbers, or twice as many bytes, fill a vector: loops over a multiple of them have nothing left over. */
-enum { VECTOR = 8, NO_SUM = 1 << 20 };
+/* From so many words or bytes on, a packet's are computed in vectors. */
+enum { MANY = 16, NO_SUM = 1 << 20 };
 
 /* A byte with even parity in bit 8 and its inverse in bit 9: folded, since a table cannot be looked up in vectors. */
 static inline uint16_t folded(uint16_t byte)
@@ -16,8 +16,8 @@ static inline uint16_t folded(uint16_t byte)
     return (uint16_t)(byte + 512 - (x << 8));
 }
 
-/* The sum of words, a multiple of VECTOR, to 16 bits; NO_SUM where one is not its byte with parity. */
-OUT_OF_LINE static unsigned sum_of_many(const uint16_t *words, size_t count)
+/* The sum of a multiple of eight words, or NO_SUM where one is not its byte with parity. */
+OUT_OF_LINE static unsigned sum_of_eights(const uint16_t *words, size_t count)
 {
     uint16_t wrong = 0, sum = 0;
     for (size_t i = 0; i < count; i++) {
@@ -38,9 +38,9 @@ static unsigned packet_fault(const uint16_t *words, size_t left)
         return 9;
     unsigned sum = words[3] + words[4] + words[5];
     const uint16_t *word = words + 6, *end = word + count;
-    if (count >= 2 * VECTOR) {
-        size_t whole = count / VECTOR * VECTOR;
-        sum += sum_of_many(word, whole);
+    if (count >= MANY) {
+        size_t whole = count / 8 * 8;
+        sum += sum_of_eights(word, whole);
         if (sum >= NO_SUM)
             return 8;
         word += whole;
@@ -72,23 +72,22 @@ OUT_OF_LINE static void lay_fives(const list *sheet, const uint8_t *restrict str
     const uint16_t *location = sheet->locations, *last = location + 2 * sheet->packets;
     for (; location < last; location += 2) {
         size_t size = string[5] + 7u;
-        const uint8_t *from = string + 3, *end = string + size;
+        const uint8_t *from = string + 3;
+        uint8_t *stop = bytes + 5 + size / 4 * 5;
         uint32_t four, over;
         bytes[0] = STARTER;
         bytes[1] = 0xFF;
         put_header(location[0], location[1], bytes + 2);
         bytes[4] = 0xFF;
-        for (; from < end; from += 4) {
-            bytes += 5;
+        for (bytes += 5; bytes < stop; bytes += 5, from += 4) {
             bytes[0] = CARRIER;
             memcpy(&four, from, 4);
             memcpy(bytes + 1, &four, 4);
         }
         memcpy(&over, fill[(size - 3) % 4], 4);
         four |= over;
-        memcpy(bytes + 1, &four, 4);
-        bytes += 5;
-        string = end;
+        memcpy(stop - 4, &four, 4);
+        string += size;
     }
 }
 
@@ -114,11 +113,9 @@ vanc_laid baseline_lay(const uint16_t *numbers, size_t count, uint64_t packing, 
     return (vanc_laid){ .packs = sheet.packs, .bytes = sheet.length };
 }
 
-/* Four quarters at once: a loop over them takes a quarter of the steps. The first byte says no to most that is not fill. */
-static bool all_fill(const uint8_t *bytes, size_t size)
+/* Four quarters at once, which takes a quarter of the loop's steps, and the few bytes behind them. */
+OUT_OF_LINE static bool many_are_fill(const uint8_t *bytes, size_t size)
 {
-    if (size == 0 || bytes[0] != FILL)
-        return size == 0;
     size_t quarter = size / 4;
     uint8_t all = FILL;
     for (size_t i = 0; i < quarter; i++)
@@ -128,25 +125,30 @@ static bool all_fill(const uint8_t *bytes, size_t size)
     return all == FILL;
 }
 
-/* The sum of a multiple of 2 * VECTOR bytes. */
-OUT_OF_LINE static uint8_t sum_of_many_bytes(const uint8_t *bytes, size_t count)
+/* The first byte says no to most packets that stand where fill may. */
+static inline bool all_fill(const uint8_t *bytes, size_t size)
+{
+    return size == 0 || (bytes[0] == FILL && many_are_fill(bytes, size));
+}
+
+OUT_OF_LINE static uint8_t sum_of_many(const uint8_t *bytes, size_t count)
 {
     uint8_t sum = 0;
-    for (size_t i = 0; i < count; i++)
+    size_t whole = count / MANY * MANY;
+    for (size_t i = 0; i < whole; i++)
         sum = (uint8_t)(sum + bytes[i]);
+    for (size_t i = 0; i < count % MANY; i++)
+        sum = (uint8_t)(sum + bytes[whole + i]);
     return sum;
 }
 
 static inline uint8_t user_sum(const uint8_t *bytes, size_t count)
 {
+    if (count >= MANY)
+        return sum_of_many(bytes, count);
     uint8_t sum = 0;
-    if (count >= 2 * VECTOR) {
-        size_t whole = count / (2 * VECTOR) * (2 * VECTOR);
-        sum = sum_of_many_bytes(bytes, whole);
-        bytes += whole;
-    }
-    for (size_t left = count % (2 * VECTOR); left > 0; left--)
-        sum = (uint8_t)(sum + *bytes++);
+    for (size_t i = 0; i < count; i++)
+        sum = (uint8_t)(sum + bytes[i]);
     return sum;
 }
 
@@ -185,32 +187,32 @@ OUT_OF_LINE static vanc_read_back open_fives(const uint8_t *restrict bytes, size
     return (vanc_read_back){ .packing = 1, .packets = packets, .numbers = length };
 }
 
-/* The words of a multiple of 2 * VECTOR bytes, and their sum. */
-OUT_OF_LINE static unsigned put_many_words(const uint8_t *restrict bytes, size_t count, uint16_t *restrict words)
+static inline unsigned put_few_words(const uint8_t *restrict bytes, size_t count, uint16_t *restrict words)
 {
-    uint16_t sum = 0;
+    unsigned sum = 0;
     for (size_t i = 0; i < count; i++) {
-        words[i] = folded(bytes[i]);
-        sum = (uint16_t)(sum + words[i]);
+        words[i] = word_of[bytes[i]];
+        sum += words[i];
     }
     return sum;
 }
 
+OUT_OF_LINE static unsigned put_many_words(const uint8_t *restrict bytes, size_t count, uint16_t *restrict words)
+{
+    size_t whole = count / MANY * MANY;
+    uint16_t sum = 0;
+    for (size_t i = 0; i < whole; i++) {
+        words[i] = folded(bytes[i]);
+        sum = (uint16_t)(sum + words[i]);
+    }
+    return sum + put_few_words(bytes + whole, count % MANY, words + whole);
+}
+
 static inline unsigned put_words(const uint8_t *restrict bytes, size_t count, uint16_t *restrict words)
 {
-    unsigned sum = 0;
-    const uint8_t *end = bytes + count;
-    if (count >= 2 * VECTOR) {
-        size_t whole = count / (2 * VECTOR) * (2 * VECTOR);
-        sum = put_many_words(bytes, whole, words);
-        bytes += whole;
-        words += whole;
-    }
-    for (; bytes < end; bytes++, words++) {
-        *words = word_of[*bytes];
-        sum += *words;
-    }
-    return sum;
+    if (count >= MANY)
+        return put_many_words(bytes, count, words);
+    return put_few_words(bytes, count, words);
 }
 
 vanc_read_back baseline_read(uint64_t system, const uint8_t *area, size_t area_len, uint16_t *sheet, size_t sheet_len)
