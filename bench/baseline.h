@@ -8,4 +8,8 @@ vanc_laid baseline_lay(const uint16_t *sheet, size_t sheet_len, uint64_t packing
 
 vanc_read_back baseline_read(uint64_t system, const uint8_t *area, size_t area_len, uint16_t *sheet, size_t sheet_len);
 
+vanc_element_written baseline_mxf_write(const uint16_t *sheet, size_t sheet_len, bool fi, uint8_t *element, size_t element_len);
+
+vanc_element_read baseline_mxf_read(uint64_t system, bool fi, const uint8_t *element, size_t element_len, uint16_t *sheet, size_t sheet_len);
+
 #endif

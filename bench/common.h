@@ -34,28 +34,32 @@ static const uint16_t word_of[256] = {
     0x2F0, 0x1F1, 0x1F2, 0x2F3, 0x1F4, 0x2F5, 0x2F6, 0x1F7, 0x1F8, 0x2F9, 0x2FA, 0x1FB, 0x2FC, 0x1FD, 0x1FE, 0x2FF,
 };
 
-/* By line, for every line that eleven bits can say: 20 for one on which no packet may stand (RP 291-2, table 3a), 16 past the frame's last. */
-static const uint8_t lines_1080[2048] = { [7 ... 8] = 20, [21 ... 560] = 20, [569 ... 570] = 20, [584 ... 1123] = 20, [1126 ... 2047] = 16 };
-static const uint8_t lines_720[2048] = { [7 ... 8] = 20, [26 ... 745] = 20, [751 ... 2047] = 16 };
+/* By line, for every line that eleven bits can say: 20 for one on which no packet may stand (RP 291-2, table 3a), 16 for 0 and past the last. */
+static const uint8_t lines_1080[2048] = {
+    [0] = 16, [7 ... 8] = 20, [21 ... 560] = 20, [569 ... 570] = 20, [584 ... 1123] = 20, [1126 ... 2047] = 16,
+};
+static const uint8_t lines_720[2048] = { [0] = 16, [7 ... 8] = 20, [26 ... 745] = 20, [751 ... 2047] = 16 };
 
 typedef struct {
     size_t sequences;
     uint16_t last_line;
     const uint8_t *line_fault;
+    uint8_t wrapping; /* of an element's packets */
 } frame_system;
 
-static const frame_system systems[] = { { 0, 0, NULL }, { 10, 1125, lines_1080 }, { 12, 1125, lines_1080 }, { 10, 750, lines_720 } };
+static const frame_system systems[] = { { 0 }, { 10, 1125, lines_1080, 1 }, { 12, 1125, lines_1080, 1 }, { 10, 750, lines_720, 4 } };
 
 /* Two sequences: where the user bytes of their six blocks start, and how many they are. */
 static const struct {
     uint16_t start, size;
 } row[6] = { { 3, 75 }, { 83, 75 }, { 163, 45 }, { 273, 45 }, { 323, 75 }, { 403, 75 } };
 
-/* A sheet, taken apart; `packs` is how many packs of 5 its packets take. */
+/* A sheet, taken apart. What is found out on the way: how many packs of 5 its packets take, and whether one has no line. */
 typedef struct {
     const frame_system *system;
     const uint16_t *locations, *words;
     size_t packets, length, packs;
+    bool lacks_line;
 } list;
 
 /* The first fault of the packet at the front of some words, 0 for none. */
@@ -65,6 +69,9 @@ static bool all_fill(const uint8_t *bytes, size_t size);
 
 /* The sum of user bytes, to eight bits. */
 static uint8_t user_sum(const uint8_t *bytes, size_t count);
+
+/* The low bytes of user words. */
+static void put_bytes(const uint16_t *restrict words, size_t count, uint8_t *restrict bytes);
 
 /* The words of user bytes, and their sum, to nine bits or more. */
 static unsigned put_words(const uint8_t *restrict bytes, size_t count, uint16_t *restrict words);
@@ -202,12 +209,15 @@ static unsigned take_apart(const uint16_t *sheet, size_t sheet_len, list *found)
         return 2;
     if (sheet[1] < 1 || sheet[1] > 3)
         return 3;
-    *found = (list){ &systems[sheet[1]], sheet + 3, sheet + section + 1, sheet[2], sheet[section], 0 };
+    *found = (list){ &systems[sheet[1]], sheet + 3, sheet + section + 1, sheet[2], sheet[section], 0, false };
     return 0;
 }
 
-/* 6 and 20 of the locations, in one pass: whether any has 20 is all that it finds out, since a 6 behind it would come first. */
-static vanc_laid locations_refusal(const list *sheet)
+/*
+ * 6 and 20 of the locations, in one pass: it finds out which faults of lines there are, and the first 20 is looked for only where there is one,
+ * since a 6 behind it would come first. Line 0 is no line.
+ */
+static vanc_laid locations_refusal(list *sheet)
 {
     const uint16_t *location = sheet->locations, *end = location + 2 * sheet->packets;
     uint16_t last_line = sheet->system->last_line;
@@ -218,10 +228,13 @@ static vanc_laid locations_refusal(const list *sheet)
             return lay_refusal(6, (size_t)(location - sheet->locations) / 2);
         faults |= line_fault[location[0]];
     }
+    sheet->lacks_line = faults != 0;
+    if (faults == 0 || faults == 16)
+        return lay_refusal(0, 0);
     size_t place = 0;
-    while (faults != 0 && line_fault[sheet->locations[2 * place]] == 0)
+    while (line_fault[sheet->locations[2 * place]] != 20)
         place++;
-    return lay_refusal(faults, place);
+    return lay_refusal(20, place);
 }
 
 /* The first word at fault of the packet at the front of some words, which has this fault. */
@@ -270,6 +283,15 @@ OUT_OF_LINE static vanc_laid packets_refusal(list *sheet)
     return lay_refusal(packets == sheet->packets ? 0 : 11, 0);
 }
 
+/* 5, 6, 20 and 7 to 11, the tests of a sheet whose counts agree. */
+static vanc_laid list_refusal(list *sheet)
+{
+    if (sheet->packets > LIMIT)
+        return lay_refusal(5, 0);
+    vanc_laid refusal = locations_refusal(sheet);
+    return refusal.number != 0 ? refusal : packets_refusal(sheet);
+}
+
 /* All tests of laying, in their order. */
 static vanc_laid sheet_refusal(const uint16_t *numbers, size_t count, uint64_t packing, size_t area_len, list *sheet)
 {
@@ -280,11 +302,7 @@ static vanc_laid sheet_refusal(const uint16_t *numbers, size_t count, uint64_t p
         return lay_refusal(fault, 0);
     if (area_len != 960 * sheet->system->sequences)
         return lay_refusal(4, 0);
-    if (sheet->packets > LIMIT)
-        return lay_refusal(5, 0);
-    vanc_laid refusal = locations_refusal(sheet);
-    if (refusal.number == 0)
-        refusal = packets_refusal(sheet);
+    vanc_laid refusal = list_refusal(sheet);
     if (refusal.number != 0)
         return refusal;
     size_t n = sheet->system->sequences;
@@ -309,7 +327,7 @@ static inline unsigned danc_fault(const uint8_t *packet, const uint8_t *line_fau
     if ((packet[0] & 0x80) == 0)
         return 0;
     unsigned line = (packet[0] & 0x7Fu) | (packet[1] & 0x0Fu) << 7;
-    return line == 0 ? 16 : line_fault[line];
+    return line_fault[line];
 }
 
 /* Where fill begins, if the packs of 5 are in order; 0 where they are not. One more byte of fill, behind the last pack, ends each run. */

@@ -2,7 +2,7 @@
  * vanc_lay and vanc_read in plain C: each rule in the loop that says it most directly, with all the tests of the library.
  * The baseline that the library's instructions are compared with.
  */
-#include "common.h"
+#include "element.h"
 
 static unsigned packet_fault(const uint16_t *words, size_t left)
 {
@@ -50,6 +50,12 @@ OUT_OF_LINE static void lay_fives(const list *sheet, uint8_t *bytes)
     }
 }
 
+static inline void put_bytes(const uint16_t *restrict words, size_t count, uint8_t *restrict bytes)
+{
+    for (size_t i = 0; i < count; i++)
+        bytes[i] = (uint8_t)words[i];
+}
+
 OUT_OF_LINE static void make_string(const list *sheet, uint8_t *string)
 {
     const uint16_t *location = sheet->locations, *words = sheet->words;
@@ -60,9 +66,8 @@ OUT_OF_LINE static void make_string(const list *sheet, uint8_t *string)
         string[3] = (uint8_t)words[3];
         string[4] = (uint8_t)words[4];
         string[5] = (uint8_t)words[5];
+        put_bytes(words + 6, user, string + 6);
         string[6 + user] = (uint8_t)words[6 + user];
-        for (size_t i = 6; i < 6 + user; i++)
-            string[i] = (uint8_t)words[i];
         words += 7 + user;
         string += 7 + user;
     }

@@ -2,7 +2,7 @@
  * vanc_lay and vanc_read in C that is written for the compiler's vector code: many words or bytes in passes without a branch, over whole
  * vectors alone, and the few that are left, or that a small packet has, one by one from a table. All the tests of the library.
  */
-#include "common.h"
+#include "element.h"
 
 /* From so many words or bytes on, a packet's are computed in vectors. */
 enum { MANY = 16, NO_SUM = 1 << 20 };
@@ -53,6 +53,21 @@ static unsigned packet_fault(const uint16_t *words, size_t left)
     return *end == check_of(sum) ? 0 : 10;
 }
 
+OUT_OF_LINE static void put_many_bytes(const uint16_t *restrict words, size_t count, uint8_t *restrict bytes)
+{
+    for (size_t i = 0; i < count; i++)
+        bytes[i] = (uint8_t)words[i];
+}
+
+static inline void put_bytes(const uint16_t *restrict words, size_t count, uint8_t *restrict bytes)
+{
+    if (count >= MANY)
+        put_many_bytes(words, count, bytes);
+    else
+        for (size_t i = 0; i < count; i++)
+            bytes[i] = (uint8_t)words[i];
+}
+
 /* The header bytes of all packets, in place of the low bytes of their flags, whose third is FFh already. */
 OUT_OF_LINE static void put_headers(const list *sheet, uint8_t *restrict string)
 {
@@ -99,8 +114,7 @@ vanc_laid baseline_lay(const uint16_t *numbers, size_t count, uint64_t packing, 
         return refusal;
     size_t n = sheet.system->sequences;
     uint8_t bytes[MOST], string[MOST];
-    for (size_t i = 0; i < sheet.length; i++)
-        string[i] = (uint8_t)sheet.words[i];
+    put_many_bytes(sheet.words, sheet.length, string);
     if (packing == 1) {
         memset(bytes + 5 * sheet.packs, FILL, 780 * n - 5 * sheet.packs);
         lay_fives(&sheet, string, bytes);
