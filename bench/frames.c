@@ -1,10 +1,11 @@
 /*
- * Lays or reads one frame, TIMES times over:
+ * Lays or reads one frame, or writes or reads its element, TIMES times over:
  *
- *     frames lay|read SYSTEM PACKING LIST sound|early|late TIMES [time]
+ *     frames lay|read|write-element|read-element SYSTEM PACKING LIST sound|early|late TIMES [time]
  *
- * LIST   the packets, as 23x255+1x160: 23 of 255 user words and one of 160; 0x0 is none
- * early  reading: DID of the first packet is damaged in the area; late: that of the last
+ * PACKING  of no effect on an element
+ * LIST     the packets, as 23x255+1x160: 23 of 255 user words and one of 160; 0x0 is none
+ * early    reading a frame: DID of the first packet is damaged in the area; late: that of the last
  *
  * Prints what the last call gave back and a hash of what it wrote; with `time`, then the nanoseconds of a call. Built with -DBASELINE it
  * calls a baseline, else the library.
@@ -20,16 +21,20 @@
 #ifdef BASELINE
 #define LAY baseline_lay
 #define READ baseline_read
+#define WRITE_ELEMENT baseline_mxf_write
+#define READ_ELEMENT baseline_mxf_read
 #else
 #define LAY vanc_lay
 #define READ vanc_read
+#define WRITE_ELEMENT vanc_mxf_write
+#define READ_ELEMENT vanc_mxf_read
 #endif
 
-enum { AREA = VANC_AREA_1080_50I, SHEET = VANC_SHEET_MAX, NOBODYS = 0xA5 };
+enum { AREA = VANC_AREA_1080_50I, SHEET = VANC_ELEMENT_SHEET_MAX, ELEMENT = VANC_ELEMENT_MAX, NOBODYS = 0xA5 };
 
 static uint16_t sheet[SHEET], back[SHEET];
-static uint8_t area[AREA];
-static size_t sequences, area_size, packets, words, last_packet;
+static uint8_t area[AREA], element[ELEMENT];
+static size_t sequences, area_size, packets, words, last_packet, element_size;
 
 static void fail(const char *why)
 {
@@ -81,8 +86,8 @@ static size_t packets_of(const char *list)
     return all;
 }
 
-/* The first packet has no line, the others are spread over all lines on which packets may stand (RP 291-2, table 3a). */
-static uint16_t line_of(uint64_t system, size_t packet)
+/* Packets are spread over all lines on which they may stand (RP 291-2, table 3a). The first has none in a frame; in an element each has one. */
+static uint16_t line_of(uint64_t system, size_t packet, bool in_element)
 {
     static const struct {
         size_t lines;
@@ -93,10 +98,10 @@ static uint16_t line_of(uint64_t system, size_t packet)
         { 28, { 1, 2, 3, 4, 5, 6, 9, 10, 11, 12, 13, 14, 15, 16, 17, 18, 19, 20, 21, 22, 23, 24, 25, 746, 747, 748, 749, 750 } },
     };
     size_t which = system == 3;
-    return packet == 0 ? 0 : allowed[which].line[packet * 37 % allowed[which].lines];
+    return packet == 0 && !in_element ? 0 : allowed[which].line[packet * 37 % allowed[which].lines];
 }
 
-static void make_sheet(uint64_t system, const char *list)
+static void make_sheet(uint64_t system, const char *list, bool in_element)
 {
     packets = packets_of(list);
     uint16_t *section = sheet + 3 + 2 * packets;
@@ -117,7 +122,7 @@ static void make_sheet(uint64_t system, const char *list)
     sheet[1] = (uint16_t)system;
     sheet[2] = (uint16_t)packets;
     for (size_t k = 0; k < packets; k++) {
-        sheet[3 + 2 * k] = line_of(system, k);
+        sheet[3 + 2 * k] = line_of(system, k, in_element);
         sheet[4 + 2 * k] = (uint16_t)(k % 4);
     }
     *section = (uint16_t)words;
@@ -181,27 +186,66 @@ static void read_times(uint64_t system, long times)
     printf("%lu %lu %lu %lu %lu %016lx\n", r.number, r.place, r.packing, r.packets, r.numbers, hash(back, sizeof back));
 }
 
+static void write_times(long times)
+{
+    vanc_element_written r = { 0 };
+    for (long k = 0; k < times; k++)
+        r = WRITE_ELEMENT(sheet, 4 + 2 * packets + words, false, element, ELEMENT);
+    printf("%lu %lu %lu %lu %lu %016lx\n", r.number, r.place, r.word, r.packets, r.bytes, hash(element, sizeof element));
+}
+
+static void read_element_times(uint64_t system, long times)
+{
+    vanc_element_read r = { 0 };
+    for (long k = 0; k < times; k++)
+        r = READ_ELEMENT(system, false, element, element_size, back, SHEET);
+    printf("%lu %lu %lu %lu %016lx\n", r.number, r.place, r.packets, r.numbers, hash(back, sizeof back));
+}
+
+/* What a call that reads needs: the area, damaged where it is asked for, or the element. */
+static void make_area(uint64_t packing, const char *state)
+{
+    if (LAY(sheet, 4 + 2 * packets + words, packing, area, area_size).number != 0)
+        fail("the list is not laid");
+    if (strcmp(state, "sound") != 0)
+        damage(packing, strcmp(state, "early") == 0 ? 0 : last_packet);
+}
+
+static void make_element(void)
+{
+    vanc_element_written r = WRITE_ELEMENT(sheet, 4 + 2 * packets + words, false, element, ELEMENT);
+    if (r.number != 0)
+        fail("the list is not written");
+    element_size = r.bytes;
+}
+
 int main(int argc, char **argv)
 {
     if (argc != 7 && argc != 8)
-        fail("frames lay|read SYSTEM PACKING LIST sound|early|late TIMES [time]");
+        fail("frames lay|read|write-element|read-element SYSTEM PACKING LIST sound|early|late TIMES [time]");
     uint64_t system = strtoul(argv[2], NULL, 10), packing = strtoul(argv[3], NULL, 10);
     long times = strtol(argv[6], NULL, 10);
-    bool lays = strcmp(argv[1], "lay") == 0;
+    bool lays = strcmp(argv[1], "lay") == 0, reads = strcmp(argv[1], "read") == 0;
+    bool writes = strcmp(argv[1], "write-element") == 0;
     sequences = system == 2 ? 12 : 10;
     area_size = 960 * sequences;
     memset(area, NOBODYS, sizeof area);
-    make_sheet(system, argv[4]);
-    if (!lays && LAY(sheet, 4 + 2 * packets + words, packing, area, area_size).number != 0)
-        fail("the list is not laid");
-    if (!lays && strcmp(argv[5], "sound") != 0)
-        damage(packing, strcmp(argv[5], "early") == 0 ? 0 : last_packet);
+    memset(element, NOBODYS, sizeof element);
+    make_sheet(system, argv[4], !lays && !reads);
+    if (reads)
+        make_area(packing, argv[5]);
+    else if (!lays && !writes)
+        make_element();
 
     clock_t begun = clock();
     if (lays)
         lay_times(packing, times);
-    else
+    else if (reads)
         read_times(system, times);
+    else if (writes)
+        write_times(times);
+    else
+        read_element_times(system, times);
     if (argc == 8)
         printf("%.1f\n", 1e9 * (double)(clock() - begun) / CLOCKS_PER_SEC / (double)times);
     return 0;

@@ -64,8 +64,8 @@ static inline void put_bytes(const uint16_t *restrict words, size_t count, uint8
     if (count >= MANY)
         put_many_bytes(words, count, bytes);
     else
-        for (size_t i = 0; i < count; i++)
-            bytes[i] = (uint8_t)words[i];
+        while (count-- > 0)
+            *bytes++ = (uint8_t)*words++;
 }
 
 /* The header bytes of all packets, in place of the low bytes of their flags, whose third is FFh already. */

@@ -69,10 +69,11 @@ else
   "$work/second" 376 "$fenced" "${answer[@]}" fence >"$work/log" || { cat "$work/log"; exit 1; }
   echo "second: $(tail -n 1 "$work/log"), and no byte read behind a buffer"
   "$work/second" "${1-375}" "${2-$cases}" "${answer[@]}"
-  # The baselines that the library's cost is compared with have to do the same work. They have neither elements nor the test of a packet alone:
-  # those calls are the library's.
+  # The baselines that the library's cost is compared with have to do the same work. They have no walk and no test of a packet alone: those calls
+  # are the library's.
+  calls=(-Dvanc_lay=baseline_lay -Dvanc_read=baseline_read -Dvanc_mxf_write=baseline_mxf_write -Dvanc_mxf_read=baseline_mxf_read)
   for baseline in plain tuned; do
-    cc_for -std=c11 -O3 -I include -I bench -Dvanc_lay=baseline_lay -Dvanc_read=baseline_read -c tests/second/answer.c -o "$work/answer.o"
+    cc_for -std=c11 -O3 -I include -I bench "${calls[@]}" -c tests/second/answer.c -o "$work/answer.o"
     cc_for -std=c11 -O3 -I include -I bench -c "bench/$baseline.c" -o "$work/baseline.o"
     cc_for "$work/answer.o" "$work/baseline.o" "$archive" -o "$work/answer"
     "$work/second" 377 15000 "${answer[@]}" >"$work/log" || { cat "$work/log"; exit 1; }
