@@ -12,12 +12,18 @@ import subprocess
 import sys
 
 WORK, TOOLCHAIN, COMPILER = sys.argv[1:4]
-# The C compiler that the bars below were met with: another one makes other baselines.
+# The C compiler that the bars below are stated for: another one makes other baselines.
 BARS_WITH = "12.2.0"
 PROGRAMS = ["library", "plain", "tuned"]
 
+# The bars: in every case, of the better of the two baselines, and in the geometric mean. That of time is wider, and nothing fails on it.
+BETTER, MEAN_PLAIN, MEAN_TUNED, BETTER_IN_TIME = 1.00, 0.60, 0.85, 1.10
+
 TYPICAL, FULL1, FULL2, MANY, MOST = "30x20", "23x255+1x160", "28x255+1x97", "512x2", "1275x0"
-# A call, the system, the packing, the packets, and whether they are damaged. The most packets that a frame holds fit system 2 in packing 2 alone.
+# The most packets of three user words that a frame holds, and some more, for which an element has room.
+CUES, MORE_CUES = "892x3", "900x3"
+# A call, the system, the packing (an element has none), the packets, and whether they are damaged. The most packets that a frame holds fit system 2
+# in packing 2 alone.
 CASES = [
     ("lay", 1, 1, TYPICAL, "sound"),
     ("lay", 1, 2, TYPICAL, "sound"),
@@ -25,6 +31,7 @@ CASES = [
     ("lay", 1, 2, FULL2, "sound"),
     ("lay", 1, 1, MANY, "sound"),
     ("lay", 1, 2, MANY, "sound"),
+    ("lay", 2, 2, CUES, "sound"),
     ("lay", 2, 2, MOST, "sound"),
     ("read", 1, 1, TYPICAL, "sound"),
     ("read", 1, 2, TYPICAL, "sound"),
@@ -32,12 +39,21 @@ CASES = [
     ("read", 1, 2, FULL2, "sound"),
     ("read", 1, 1, MANY, "sound"),
     ("read", 1, 2, MANY, "sound"),
+    ("read", 2, 2, CUES, "sound"),
     ("read", 2, 2, MOST, "sound"),
     ("read", 1, 1, "0x0", "sound"),
     ("read", 1, 1, FULL1, "early"),
     ("read", 1, 2, FULL2, "early"),
     ("read", 1, 1, FULL1, "late"),
     ("read", 1, 2, FULL2, "late"),
+    ("write-element", 2, 0, TYPICAL, "sound"),
+    ("write-element", 2, 0, FULL2, "sound"),
+    ("write-element", 2, 0, MORE_CUES, "sound"),
+    ("write-element", 2, 0, MOST, "sound"),
+    ("read-element", 2, 0, TYPICAL, "sound"),
+    ("read-element", 2, 0, FULL2, "sound"),
+    ("read-element", 2, 0, MORE_CUES, "sound"),
+    ("read-element", 2, 0, MOST, "sound"),
 ]
 CALLS = 20
 
@@ -84,25 +100,47 @@ def name(case):
     call, system, packing, packets, state = case
     if packets == "0x0":
         return f"{call} an empty area"
-    counts = re.sub(r"\d+", lambda count: f"{int(count[0]):,}", packets.replace("1x", ""))
-    text = f"{call} {counts.replace('x', ' × ').replace('+', ' + ')}, packing {packing}{', system 2' if system == 2 else ''}"
+    counts = re.sub(r"\d+", lambda count: f"{int(count[0]):,}", re.sub(r"\b1x", "", packets))
+    text = f"{call.replace('-', ' ')} {counts.replace('x', ' × ').replace('+', ' + ')}"
+    text += f", packing {packing}" if packing else ""
+    text += ", system 2" if system == 2 else ""
     return text if state == "sound" else f"{text}, damaged, refused {state}"
 
 
 def print_table(measure):
-    """A row for each case. Gives whether they are within the bars, which are stated for instructions."""
-    plain, tuned, most = [], [], []
-    print("| Call, packets × DC | Library | Plain C | Tuned C | Ratio to plain | Ratio to tuned |")
-    print("|---|---:|---:|---:|---:|---:|")
+    """A row for each case. Gives the ratios to plain C, to tuned C and to the better of the two, by the case's name."""
+    ratios = {}
+    print("| Call, packets × DC | Library | Plain C | Tuned C | Ratio to plain | Ratio to tuned | Ratio to the better |")
+    print("|---|---:|---:|---:|---:|---:|---:|")
     for case in CASES:
-        library, of_plain, of_tuned = measure(case)
-        plain.append(library / of_plain)
-        tuned.append(library / of_tuned)
-        most += [tuned[-1]] if MOST in case else []
-        print(f"| {name(case)} | {library:,.0f} | {of_plain:,.0f} | {of_tuned:,.0f} | {plain[-1]:.2f} | {tuned[-1]:.2f} |")
-    print(f"| geometric mean | | | | {mean(plain):.2f} | {mean(tuned):.2f} |")
-    print(f"| highest | | | | {max(plain):.2f} | {max(tuned):.2f} |")
-    return max(plain) <= 1 and max(most) <= 1 and mean(plain) <= 0.75 and mean(tuned) <= 1
+        counts = measure(case)
+        library, plain, tuned = counts
+        ratios[name(case)] = library / plain, library / tuned, library / min(plain, tuned)
+        print(f"| {name(case)} | " + " | ".join(f"{count:,.0f}" for count in counts) + " | " + cells(ratios[name(case)]) + " |")
+    print(f"| geometric mean | | | | {cells(map(mean, zip(*ratios.values())))} |")
+    print(f"| highest | | | | {cells(map(max, zip(*ratios.values())))} |")
+    return ratios
+
+
+def cells(ratios):
+    return " | ".join(f"{ratio:.2f}" for ratio in ratios)
+
+
+def over(ratios, bar):
+    """The cases that are over a bar of the better of the two, with their ratios."""
+    return [f"{case} ({digits(ratio, bar)})" for case, (_, _, ratio) in ratios.items() if ratio > bar]
+
+
+def digits(ratio, bar):
+    """As many digits as tell a ratio from the bar."""
+    return f"{ratio:.2f}" if round(ratio, 2) > bar else f"{ratio:.6f}"
+
+
+def failures(ratios):
+    """What is not within the bars of instructions: cases, and then means."""
+    plain, tuned, _ = map(mean, zip(*ratios.values()))
+    means = [(plain, MEAN_PLAIN, "plain C"), (tuned, MEAN_TUNED, "tuned C")]
+    return over(ratios, BETTER) + [f"the mean ratio to {c} ({digits(ratio, bar)})" for ratio, bar, c in means if ratio > bar]
 
 
 def print_growth():
@@ -117,19 +155,23 @@ def print_growth():
 def print_tables():
     print(f"x86-64 instructions of one call, system 1 where no other is named. Library: {TOOLCHAIN}. C: gcc {COMPILER} -O3.")
     print()
-    met = print_table(counted)
+    failed = failures(print_table(counted))
     print()
-    print("Bars of the instructions above: at most 1.00 of plain C in every case, and of tuned C with the most packets; in the mean at most 0.75 of")
-    print("plain C, and 1.00 of tuned C.")
-    print("Within the bars." if met else "NOT within the bars.")
+    print(f"Bars of the instructions above: in every case at most {BETTER:.2f} of the better of the two baselines; in the mean")
+    print(f"at most {MEAN_PLAIN:.2f} of plain C, and {MEAN_TUNED:.2f} of tuned C.")
+    print(f"NOT within the bars: {'; '.join(failed)}." if failed else "Within the bars.")
     if COMPILER != BARS_WITH:
-        print(f"With gcc {COMPILER} that is no verdict: the bars were met with gcc {BARS_WITH}.")
+        print(f"With gcc {COMPILER} that is no verdict: the bars are stated for gcc {BARS_WITH}.")
     if platform.machine() == "x86_64":
         print()
-        print("Nanoseconds of one call on this machine. No bar is stated for them, and nothing judges them: times differ from run to run.")
+        print("Nanoseconds of one call on this machine.")
         print()
-        print_table(timed)
-    if not met and COMPILER == BARS_WITH:
+        slow = over(print_table(timed), BETTER_IN_TIME)
+        print()
+        print(f"Bar of the times above: in every case at most {BETTER_IN_TIME:.2f} of the better of the two baselines. Times differ from run")
+        print("to run: nothing fails on it.")
+        print(f"Over the bar: {'; '.join(slow)}." if slow else "Within the bar.")
+    if failed and COMPILER == BARS_WITH:
         sys.exit(1)
 
 
