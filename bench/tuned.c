@@ -115,13 +115,13 @@ vanc_laid baseline_lay(const uint16_t *numbers, size_t count, uint64_t packing, 
     size_t n = sheet.system->sequences;
     uint8_t bytes[MOST], string[MOST];
     put_many_bytes(sheet.words, sheet.length, string);
+    memset(string + sheet.length, FILL, 72);
     if (packing == 1) {
         memset(bytes + 5 * sheet.packs, FILL, 780 * n - 5 * sheet.packs);
         lay_fives(&sheet, string, bytes);
         spread(n, bytes, area);
     } else {
         put_headers(&sheet, string);
-        memset(string + sheet.length, FILL, 72);
         sheet.packs = lay_long(n, string, sheet.length, area);
     }
     return (vanc_laid){ .packs = sheet.packs, .bytes = sheet.length };
@@ -167,38 +167,35 @@ static inline uint8_t user_sum(const uint8_t *bytes, size_t count)
 }
 
 /*
- * The string of packs of 5 that have fill behind them; its length and its packets, or a refusal, and `end`, where the last pack ends. Whether
- * the packs are in order is found out on the way, for those of sound packets. Packets have at least two packs, so there are at most 936: the
- * limit is not reached.
+ * The string of packs of 5, with four bytes of fill behind them, which end each run; its length and its packets, or a refusal, and `end`, where
+ * the last pack ends. That the packs are in order is found out on the way, where there is no refusal. Packets have at least two packs, so there
+ * are at most 936: the limit is not reached.
  */
-OUT_OF_LINE static vanc_read_back open_fives(const uint8_t *restrict bytes, size_t total, const uint8_t *line_fault, uint8_t *restrict string,
-                                             size_t *end)
+OUT_OF_LINE static vanc_read_back open_fives(const uint8_t *restrict bytes, const uint8_t *line_fault, uint8_t *restrict string, size_t *end)
 {
-    size_t packets = 0, length = 0, at = 0;
-    for (; bytes[at] == STARTER; packets++) {
-        size_t size = bytes[at + 8] + 7u, stop = at + 5 + size / 4 * 5;
-        uint32_t four, over;
-        if (stop > total || bytes[stop] == CARRIER)
-            return read_refusal(14, packets);
-        uint8_t *to = string + length;
-        memcpy(to, bytes + at + 2, 3);
-        to += 3;
-        for (at += 5; at < stop; at += 5, to += 4) {
-            if (bytes[at] != CARRIER)
-                return read_refusal(14, packets);
-            memcpy(&four, bytes + at + 1, 4);
+    const uint8_t *pack = bytes;
+    uint8_t *packet = string;
+    size_t packets = 0;
+    for (; *pack == STARTER; packets++) {
+        size_t size = pack[8] + 7u;
+        const uint8_t *stop = pack + 5 + size / 4 * 5;
+        uint8_t *to = packet + 3;
+        uint32_t four = 0, over;
+        memcpy(packet, pack + 2, 3);
+        for (pack += 5; *pack == CARRIER; pack += 5, to += 4) {
+            memcpy(&four, pack + 1, 4);
             memcpy(to, &four, 4);
         }
         memcpy(&over, fill[(size - 3) % 4], 4);
-        if ((four & over) != over)
+        if (pack != stop || (four & over) != over)
             return read_refusal(14, packets);
-        unsigned fault = danc_fault(string + length, line_fault);
+        unsigned fault = danc_fault(packet, line_fault);
         if (fault != 0)
             return read_refusal(fault, packets);
-        length += size;
+        packet += size;
     }
-    *end = at;
-    return (vanc_read_back){ .packing = 1, .packets = packets, .numbers = length };
+    *end = (size_t)(pack - bytes);
+    return (vanc_read_back){ .packing = 1, .packets = packets, .numbers = (size_t)(packet - string) };
 }
 
 static inline unsigned put_few_words(const uint8_t *restrict bytes, size_t count, uint16_t *restrict words)
@@ -236,7 +233,7 @@ vanc_read_back baseline_read(uint64_t system, const uint8_t *area, size_t area_l
     size_t n = systems[system].sequences, total = 780 * n;
     if (area_len != 960 * n)
         return read_refusal(4, 0);
-    uint8_t bytes[MOST + 4], string[MOST + 8];
+    uint8_t bytes[MOST + 4], string[MOST];
     vanc_read_back found = { 0 };
     if (area[3] == LONG) {
         size_t length, last;
@@ -248,7 +245,8 @@ vanc_read_back baseline_read(uint64_t system, const uint8_t *area, size_t area_l
         collect(n, area, bytes);
         memset(bytes + total, FILL, 4);
         if (bytes[0] == STARTER)
-            found = open_fives(bytes, total, systems[system].line_fault, string, &end);
+            found = open_fives(bytes, systems[system].line_fault, string, &end);
+        /* A refusal counts only where all packs are in order. */
         if (found.number != 0 ? packs_end(bytes, total) == 0 : !all_fill(bytes + end, total - end))
             return read_refusal(13, 0);
     }
