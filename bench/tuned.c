@@ -177,8 +177,8 @@ OUT_OF_LINE static vanc_read_back open_fives(const uint8_t *restrict bytes, cons
     uint8_t *packet = string;
     size_t packets = 0;
     for (; *pack == STARTER; packets++) {
+        const uint8_t *first = pack;
         size_t size = pack[8] + 7u;
-        const uint8_t *stop = pack + 5 + size / 4 * 5;
         uint8_t *to = packet + 3;
         uint32_t four = 0, over;
         memcpy(packet, pack + 2, 3);
@@ -187,7 +187,7 @@ OUT_OF_LINE static vanc_read_back open_fives(const uint8_t *restrict bytes, cons
             memcpy(to, &four, 4);
         }
         memcpy(&over, fill[(size - 3) % 4], 4);
-        if (pack != stop || (four & over) != over)
+        if ((size_t)(pack - first) != 5 + size / 4 * 5 || (four & over) != over)
             return read_refusal(14, packets);
         unsigned fault = danc_fault(packet, line_fault);
         if (fault != 0)
