@@ -1,5 +1,6 @@
 /*
- * What both baselines say alike. Where they differ, each has its own `packet_fault` and `all_fill`, and its own laying, opening and writing.
+ * What both baselines say alike. Where they differ, each has its own: the test of a packet, fill, sums and words of user bytes (declared below),
+ * and how packs of 5 are laid and opened.
  */
 #ifndef COMMON_H
 #define COMMON_H
@@ -9,7 +10,7 @@
 
 #include "baseline.h"
 
-/* For a loop over packets: in line, it would lack the registers that hold what its caller needs behind it. */
+/* For loops over packets, which in line would lack the registers that their caller keeps its own in, and for what sound or small packets pass by. */
 #define OUT_OF_LINE __attribute__((noinline))
 
 enum { LIMIT = 1275, STARTER = 0xE1, CARRIER = 0xE2, LONG = 0xE3, FILL = 0xFF, MOST = 9360 };
@@ -65,6 +66,7 @@ typedef struct {
 /* The first fault of the packet at the front of some words, 0 for none. */
 static unsigned packet_fault(const uint16_t *words, size_t left);
 
+/* Whether all bytes are fill, or there is none. */
 static bool all_fill(const uint8_t *bytes, size_t size);
 
 /* The sum of user bytes, to eight bits. */
@@ -364,7 +366,7 @@ OUT_OF_LINE static vanc_read_back walk(const uint8_t *string, size_t length, siz
     return (vanc_read_back){ .packing = 2, .packets = packets, .numbers = length - left };
 }
 
-/* The words of a packet from its bytes, DID to the last user byte: the flag, theirs, CS. The packet's words. */
+/* The words of a packet from its bytes, DID to the last user byte: the flag, theirs, CS. How many they are. */
 static inline size_t put_packet(const uint8_t *restrict bytes, uint16_t *restrict words)
 {
     size_t user = bytes[2];

@@ -1,6 +1,6 @@
 /*
- * vanc_lay and vanc_read in plain C: each rule in the loop that says it most directly, with all the tests of the library.
- * The baseline that the library's instructions are compared with.
+ * Laying, reading and elements in plain C: each rule in the loop that says it most directly, with all the tests of the library.
+ * One of the two baselines that the library's instructions are compared with.
  */
 #include "element.h"
 
@@ -154,7 +154,7 @@ vanc_read_back baseline_read(uint64_t system, const uint8_t *area, size_t area_l
     uint8_t bytes[MOST + 1], string[MOST];
     vanc_read_back found = { 0 };
     if (area[3] == LONG) {
-        size_t length, last;
+        size_t length = 0, last = 0;
         if (!open_long(n, area, string, &length, &last))
             return read_refusal(13, 0);
         found = walk(string, length, last, systems[system].line_fault);

@@ -1,10 +1,10 @@
 /*
- * vanc_lay and vanc_read in C that is written for the compiler's vector code: many words or bytes in passes without a branch, over whole
- * vectors alone, and the few that are left, or that a small packet has, one by one from a table. All the tests of the library.
+ * Laying, reading and elements in C that is written for the compiler's vector code: many words or bytes in passes without a branch, over whole
+ * vectors alone, and the few that are left over, or that a small packet has, one by one from a table. All the tests of the library.
  */
 #include "element.h"
 
-/* From so many words or bytes on, a packet's are computed in vectors. */
+/* From so many words or bytes on, a packet's are computed in vectors. NO_SUM is over all sums. */
 enum { MANY = 16, NO_SUM = 1 << 20 };
 
 /* A byte with even parity in bit 8 and its inverse in bit 9: folded, since a table cannot be looked up in vectors. */
@@ -59,6 +59,7 @@ OUT_OF_LINE static void put_many_bytes(const uint16_t *restrict words, size_t co
         bytes[i] = (uint8_t)words[i];
 }
 
+/* The few are counted down: counted up, the compiler would make a vector loop of these too. */
 static inline void put_bytes(const uint16_t *restrict words, size_t count, uint8_t *restrict bytes)
 {
     if (count >= MANY)
@@ -96,9 +97,9 @@ OUT_OF_LINE static void lay_fives(const list *sheet, const uint8_t *restrict str
         bytes[4] = 0xFF;
         for (bytes += 5; bytes < stop; bytes += 5, from += 4) {
             bytes[0] = CARRIER;
-            memcpy(&four, from, 4);
-            memcpy(bytes + 1, &four, 4);
+            memcpy(bytes + 1, from, 4);
         }
+        memcpy(&four, stop - 4, 4);
         memcpy(&over, fill[(size - 3) % 4], 4);
         four |= over;
         memcpy(stop - 4, &four, 4);
@@ -180,12 +181,11 @@ OUT_OF_LINE static vanc_read_back open_fives(const uint8_t *restrict bytes, cons
         const uint8_t *first = pack;
         size_t size = pack[8] + 7u;
         uint8_t *to = packet + 3;
-        uint32_t four = 0, over;
+        uint32_t four, over;
         memcpy(packet, pack + 2, 3);
-        for (pack += 5; *pack == CARRIER; pack += 5, to += 4) {
-            memcpy(&four, pack + 1, 4);
-            memcpy(to, &four, 4);
-        }
+        for (pack += 5; *pack == CARRIER; pack += 5, to += 4)
+            memcpy(to, pack + 1, 4);
+        memcpy(&four, pack - 4, 4);
         memcpy(&over, fill[(size - 3) % 4], 4);
         if ((size_t)(pack - first) != 5 + size / 4 * 5 || (four & over) != over)
             return read_refusal(14, packets);
@@ -236,7 +236,7 @@ vanc_read_back baseline_read(uint64_t system, const uint8_t *area, size_t area_l
     uint8_t bytes[MOST + 4], string[MOST];
     vanc_read_back found = { 0 };
     if (area[3] == LONG) {
-        size_t length, last;
+        size_t length = 0, last = 0;
         if (!open_long(n, area, string, &length, &last))
             return read_refusal(13, 0);
         found = walk(string, length, last, systems[system].line_fault);
