@@ -31,6 +31,7 @@
 #endif
 
 enum { AREA = VANC_AREA_1080_50I, SHEET = VANC_ELEMENT_SHEET_MAX, ELEMENT = VANC_ELEMENT_MAX, NOBODYS = 0xA5 };
+enum { LAYS, READS, WRITES_ELEMENT, READS_ELEMENT };
 
 static uint16_t sheet[SHEET], back[SHEET];
 static uint8_t area[AREA], element[ELEMENT];
@@ -202,7 +203,7 @@ static void read_element_times(uint64_t system, long times)
     printf("%lu %lu %lu %lu %016lx\n", r.number, r.place, r.packets, r.numbers, hash(back, sizeof back));
 }
 
-/* What a call that reads needs: the area, damaged where it is asked for, or the element. */
+/* What reading reads: the area, damaged where that is asked for. */
 static void make_area(uint64_t packing, const char *state)
 {
     if (LAY(sheet, 4 + 2 * packets + words, packing, area, area_size).number != 0)
@@ -219,30 +220,39 @@ static void make_element(void)
     element_size = r.bytes;
 }
 
+static int call_of(const char *name)
+{
+    static const char *const names[] = { "lay", "read", "write-element", "read-element" };
+    for (int call = LAYS; call <= READS_ELEMENT; call++)
+        if (strcmp(name, names[call]) == 0)
+            return call;
+    fail("no such call");
+    return 0;
+}
+
 int main(int argc, char **argv)
 {
     if (argc != 7 && argc != 8)
         fail("frames lay|read|write-element|read-element SYSTEM PACKING LIST sound|early|late TIMES [time]");
     uint64_t system = strtoul(argv[2], NULL, 10), packing = strtoul(argv[3], NULL, 10);
     long times = strtol(argv[6], NULL, 10);
-    bool lays = strcmp(argv[1], "lay") == 0, reads = strcmp(argv[1], "read") == 0;
-    bool writes = strcmp(argv[1], "write-element") == 0;
+    int call = call_of(argv[1]);
     sequences = system == 2 ? 12 : 10;
     area_size = 960 * sequences;
     memset(area, NOBODYS, sizeof area);
     memset(element, NOBODYS, sizeof element);
-    make_sheet(system, argv[4], !lays && !reads);
-    if (reads)
+    make_sheet(system, argv[4], call == WRITES_ELEMENT || call == READS_ELEMENT);
+    if (call == READS)
         make_area(packing, argv[5]);
-    else if (!lays && !writes)
+    else if (call == READS_ELEMENT)
         make_element();
 
     clock_t begun = clock();
-    if (lays)
+    if (call == LAYS)
         lay_times(packing, times);
-    else if (reads)
+    else if (call == READS)
         read_times(system, times);
-    else if (writes)
+    else if (call == WRITES_ELEMENT)
         write_times(times);
     else
         read_element_times(system, times);
