@@ -59,9 +59,11 @@ OUT_OF_LINE static void put_many_bytes(const uint16_t *restrict words, size_t co
         bytes[i] = (uint8_t)words[i];
 }
 
-/* The few are counted down: counted up, the compiler would make a vector loop of these too. */
+/* The few are counted down: counted up, the compiler would make a vector loop of these too. Where there is none, that is said first. */
 static inline void put_bytes(const uint16_t *restrict words, size_t count, uint8_t *restrict bytes)
 {
+    if (count == 0)
+        return;
     if (count >= MANY)
         put_many_bytes(words, count, bytes);
     else
