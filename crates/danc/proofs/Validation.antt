@@ -110,7 +110,8 @@ module _ {end at k : ℕ} (w : Within end at k) where
   pub here-within : Within end ((k + base * at) / base) ((k + base * at) % base)
   here-within = rw (parts .0, parts .1) w
 
-  pub here-same : (y : System) (room : ℕ) (s : List ℕ) → validated y room s ((k + base * at) / base) ((k + base * at) % base) ≡ validated y room s at k
+  pub here-same : (y : System) (room : ℕ) (s : List ℕ)
+      → validated y room s ((k + base * at) / base) ((k + base * at) % base) ≡ validated y room s at k
   here-same y room s = rw (parts .0, parts .1)
 
 -- a packet without a fault in a part that has room for the longest, and where the next one begins
@@ -123,8 +124,8 @@ run-next y room us end at k dc inside whole few d small z =
     let a = length-drop at us in
     let l : length p ≡ end - at = length-take-le (end - at) (drop at us) (omega arith) in
     let n : stringFault y p ≡ 0 = fault-bytes y p (part-whole us end at (omega arith) whole) ∙ z in
-    at-next y room us end at k (sym (second-false (ltb (length p) room) (allIs 0xFF p) (not-fill y p (omega arith) z))) (omega arith) (λ e. omega arith) 0
-    (sym n) refl dc d
+    let goes = second-false (ltb (length p) room) (allIs 0xFF p) (not-fill y p (omega arith) z) in
+    at-next y room us end at k (sym goes) (omega arith) (λ e. omega arith) 0 (sym n) refl dc d
 
 -- one packet alone, in a part that it fills
 module _ (y : System) (us : List ℕ) (end at k : ℕ) (fit : at + (getD us (at + 5) 0 + 7) ≡ end) (short : end ≤ 9360) (whole : length us ≡ 9360) where

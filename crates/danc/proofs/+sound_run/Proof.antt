@@ -69,5 +69,6 @@ unfolding limit
       λ y l room.
           let z = f .before .is-sound .ensures y l (not-false _ (f .if2 .left)) in
           c .sound-run .ensures .1 y l room
-          ∙ run-next y room (a .us .now) (a .end) (a .at) (a .k) _ (omega arith) (omega arith) (omega arith) (n .wide .ensures .0) (n .wide .ensures .1) z,
+          ∙ run-next y room (a .us .now) (a .end) (a .at) (a .k) _ (omega arith) (omega arith) (omega arith)
+          (n .wide .ensures .0) (n .wide .ensures .1) z,
     ))
