@@ -1,16 +1,16 @@
 -- The lines on which a packet may stand, one run of lines at a time.
 --
--- In order: no line, and the others; 1080; 720; any frame; lines as bits.
+-- In order: no line, and the others; 1080; 720; any frame; line by line; comparisons joined; lines as bits.
 -- Assumes nothing.
 use Prim.Native.Nat.{ℕ, zero, suc, _≤_, _<_}
 use mathlib.Core.Path.{_≡_, refl, sym, ap, _∙_}
 use mathlib.Core.Bool.{Bool, true, false, cond, not, _&&_, _||_}
 use mathlib.Core.List.{List}
 use native.Mathlib.Omega.{arith}
-use lib.Dec.{eqb, leb}
-use borrow.Author.Tests.{eqb-true, eqb-false, leb-true, leb-false, ne-eqb, le-leb, lt-leb}
+use lib.Dec.{eqb, ltb, leb}
+use borrow.Author.Tests.{eqb-true, eqb-false, ltb-true, ltb-false, leb-true, leb-false, ne-eqb, le-ltb, le-leb, lt-leb}
 use Rattle.rules.specs.Systems.{System, stands, vanc1080, vanc720, among, isVanc, vancLine, allowed}
-use Rattle.rules.proofs.Basics.{never, both}
+use Rattle.rules.proofs.Basics.{never, both, second-false}
 use Rattle.rules.proofs.Lines.{allowed-none}
 use Rattle.frame.specs.Lines.{isIn, noLines, lines1080, lines720, linesOf}
 
@@ -155,7 +155,7 @@ module _ (y : System) (last : ℕ) (is : y .last ≡ last) (line : ℕ) where
   pub any-line : (last ≡ 1125 → ⊥) → (last ≡ 750 → ⊥) → line ≤ last → true ≡ allowed y line
   any-line m n l = by-table y line true (omega arith) (λ z. refl) (λ k. rw (is, ne-eqb last 1125 m, ne-eqb last 750 n))
 
--- ---- lines as bits
+-- ---- line by line: what is computed for each
 
 -- a test holds of every number below n
 abbrev allBelow : ℕ → (ℕ → Bool) → Bool
@@ -169,6 +169,62 @@ each-below (suc n) test e i h = go (eqb i n) refl (each-below n test (both (test
     go : (t : Bool) → eqb i n ≡ t → (i < n → test i ≡ true) → test i ≡ true
     go true q ih = rw (eqb-true i n q) (both (test n) (allBelow n test) e .0)
     go false q ih = let k = eqb-false i n q in ih (omega arith)
+
+-- ---- comparisons joined without a branch
+
+abbrev same : Bool → Bool → Bool
+same a b = cond a b (not b)
+
+same-true : (a b : Bool) → same a b ≡ true → a ≡ b
+same-true true b e = sym e
+same-true false true e = e
+same-true false false e = refl
+
+-- a line of the frame that the table allows, or none
+abbrev tabled : ℕ → ℕ → Bool
+tabled last line = eqb line 0 || (leb line last && vancLine last line)
+
+-- a test that says of each line up to the last what the table does, and lets none past it pass
+by-lines : (last : ℕ) (test : ℕ → Bool) → allBelow (suc last) (λ (n : ℕ). same (test n) (tabled last n)) ≡ true
+    → ((n : ℕ) → last < n → test n ≡ false) → (y : System) → y .last ≡ last → (line : ℕ) → test line ≡ allowed y line
+unfolding allowed stands
+by-lines last test all past y is line = go (ltb last line) refl
+  where
+    go : (t : Bool) → ltb last line ≡ t → test line ≡ allowed y line
+    go true e = let l = ltb-true last line e in past line l ∙ past-last y last is line l
+    go false e =
+        let l = ltb-false last line e in
+        let w = each-below (suc last) (λ (n : ℕ). same (test n) (tabled last n)) all line (omega arith) in
+        rw is (same-true (test line) (tabled last line) w)
+
+abbrev joined1080 : ℕ → Bool
+joined1080 n =
+    (((ltb n 7 || (leb 9 n && leb n 20)) || (leb 561 n && leb n 568)) || (leb 571 n && leb n 583)) || (leb 1124 n && leb n 1125)
+
+pub joined-1080 : (y : System) → y .last ≡ 1125 → (line : ℕ) → joined1080 line ≡ allowed y line
+joined-1080 =
+    by-lines 1125 joined1080 refl (λ n l.
+    rw (
+      le-ltb n 7 (omega arith),
+      second-false (leb 9 n) (leb n 20) (lt-leb n 20 (omega arith)),
+      second-false (leb 561 n) (leb n 568) (lt-leb n 568 (omega arith)),
+      second-false (leb 571 n) (leb n 583) (lt-leb n 583 (omega arith)),
+      second-false (leb 1124 n) (leb n 1125) (lt-leb n 1125 l),
+    ))
+
+abbrev joined720 : ℕ → Bool
+joined720 n = (ltb n 7 || (leb 9 n && leb n 25)) || (leb 746 n && leb n 750)
+
+pub joined-720 : (y : System) → y .last ≡ 750 → (line : ℕ) → joined720 line ≡ allowed y line
+joined-720 =
+    by-lines 750 joined720 refl (λ n l.
+    rw (
+      le-ltb n 7 (omega arith),
+      second-false (leb 9 n) (leb n 25) (lt-leb n 25 (omega arith)),
+      second-false (leb 746 n) (leb n 750) (lt-leb n 750 l),
+    ))
+
+-- ---- lines as bits
 
 -- a line that is in them is a line of the frame, from 1 on, that the table allows
 abbrev fits : ℕ → List ℕ → ℕ → Bool

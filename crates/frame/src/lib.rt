@@ -9,6 +9,8 @@ ghost use Rattle.frame.specs.Bytes.{fitsArea, collected, bytesAfter, are
 mod blocks;
 mod lines;
 
+pub use lines::is_allowed_in_720;
+pub use lines::is_allowed_in_1080;
 pub use lines::is_in;
 pub use lines::lines_of;
 pub use lines::may_stand;

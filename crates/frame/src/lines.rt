@@ -59,6 +59,26 @@ pub fn may_stand(last: Line, line: Line) -> bool
     true
 }
 
+// The same lines of 1080, and no line, told without a branch: in a loop such comparisons become vector code, which tests many lines at a time.
+pub fn is_allowed_in_1080(line: Line) -> bool
+    ensures { λ r. ⌜ ((y : System) → y .last ≡ 1125 → r ≡ allowed y (line .0)) ⌝ }
+{
+    let n = line.0;
+    (n < 7)
+        | ((9 <= n) & (n <= 20))
+        | ((561 <= n) & (n <= 568))
+        | ((571 <= n) & (n <= 583))
+        | ((1124 <= n) & (n <= 1125))
+}
+
+// The same of 720.
+pub fn is_allowed_in_720(line: Line) -> bool
+    ensures { λ r. ⌜ ((y : System) → y .last ≡ 750 → r ≡ allowed y (line .0)) ⌝ }
+{
+    let n = line.0;
+    (n < 7) | ((9 <= n) & (n <= 25)) | ((746 <= n) & (n <= 750))
+}
+
 // The same lines as bits, which a caller asks for once: to find a line among them takes no branch. Line n is bit n % 64 of number n / 64. Line 0
 // is not among them: where LE is 1 it is a fault.
 pub fn lines_of(last: Line) -> [u64; 32]

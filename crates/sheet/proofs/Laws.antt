@@ -2,7 +2,7 @@
 --
 -- In order: the shape (2); locations (6, 20); the list (5, 6, 20, 7 to 10, 11); the sheet (2, 3).
 -- Assumes nothing.
-use Prim.Native.Nat.{ℕ, zero, suc, _+_, _-_, _*_, _≤_, _<_}
+use Prim.Native.Nat.{ℕ, zero, suc, _+_, _-_, _*_, _/_, _≤_, _<_}
 use mathlib.Core.Path.{_≡_, refl, sym, ap, ap₂, _∙_}
 use mathlib.Core.Bool.{Bool, true, false, cond, not, _&&_}
 use mathlib.Core.List.{List, [], _∷_}
@@ -29,7 +29,7 @@ use Rattle.packet.specs.Run.{counted}
 use Rattle.frame.specs.Systems.{figuresOf}
 use Rattle.frame.specs.declared.Figures.{Figures}
 use Rattle.frame.proofs.Laws.{last-is, is-unknown, is-known}
-use Rattle.sheet.specs.Standing.{locationTests, inFront, inPlace}
+use Rattle.sheet.specs.Standing.{locationTests, inFront, inPlace, AllInPlace}
 
 -- ---- the shape
 
@@ -196,6 +196,22 @@ front-end test k ls h = let l = length-drop (2 * k) ls in go (drop (2 * k) ls) (
     go [] h = omega arith
     go (x ∷ []) h = omega arith
     go (x ∷ z ∷ t) h = absurd (omega arith)
+
+-- the pass over all pairs: where the answer so far is true, those in front of k are in place
+module _ (y : System) (ls : List ℕ) (k : ℕ) (all : Bool) where
+  abbrev pub Passed : Type 0
+  Passed = all ≡ true → k + inFront (inPlace y) (drop (2 * k) ls) ≡ inFront (inPlace y) ls
+
+  pub pass-end : length ls / 2 ≤ k → 2 * k ≤ length ls → Passed → all ≡ true → AllInPlace y ls
+  pass-end h l p e = let a = front-end (inPlace y) k ls (omega arith) in let b = p e in omega arith
+
+pub pass-more : (y : System) (ls : List ℕ) (k : ℕ) (all t : Bool) → 2 * k + 1 < length ls → t ≡ allowed y (getD ls (2 * k) 0) → Passed y ls k all
+    → Passed y ls (k + 1) ((all && leb (getD ls (2 * k + 1) 0) 3) && t)
+pass-more y ls k all t h f p e =
+    let m : Bool = leb (getD ls (2 * k + 1) 0) 3 in
+    let w = both (all && m) t e in
+    let v = both all m (w .0) in
+    place-more y (y .last) refl k ls h (leb-true (getD ls (2 * k + 1) 0) 3 (v .1)) (sym f ∙ w .1) ∙ p (v .0)
 
 -- ---- the list
 

@@ -12,7 +12,7 @@ ghost use Rattle.rules.specs.Numbers.{Outcome, refused};
 ghost use Rattle.rules.specs.Laying.{shaped, locationStands, listTests};
 ghost use Rattle.rules.specs.Lister.{testedOf, testedWith, testedIn};
 ghost use Rattle.rules.specs.Demands.{Tests};
-ghost use Rattle.sheet.specs.Standing.{inFront, inPlace, locationTests};
+ghost use Rattle.sheet.specs.Standing.{inFront, inPlace, locationTests, AllInPlace};
 
 mod write;
 
@@ -75,7 +75,7 @@ fn standing(last: Line, ls: &[u16]) -> usize
 }
 
 // How many locations in front of the first that is out of range or on a line that is not allowed: where there is none, neither 6 nor 20 is
-// given, and the locations are looked at once.
+// given.
 fn in_place(last: Line, ls: &[u16]) -> usize
     ensures { λ r. ⌜ ((y : System) → y .last ≡ last .0 → r ≡ inFront (inPlace y) (now (ls .entry))) ⌝ }
 {
@@ -87,6 +87,56 @@ fn in_place(last: Line, ls: &[u16]) -> usize
         k += 1;
     }
     k
+}
+
+// Whether each location is in its place, in 1080: in one pass without a branch, so that the compiler tests many at a time.
+fn all_in_1080(ls: &[u16]) -> bool
+    ensures { λ r. ⌜ ((y : System) → y .last ≡ 1125 → r ≡ true → AllInPlace y (now (ls .entry))) ⌝ }
+{
+    let mut all = true;
+    let mut k = 0;
+    while k < ls.len() / 2 {
+        all = all & (ls[2 * k + 1] <= 3) & frame::is_allowed_in_1080(Line(ls[2 * k]));
+        k += 1;
+    }
+    all
+}
+
+// The same in 720.
+fn all_in_720(ls: &[u16]) -> bool
+    ensures { λ r. ⌜ ((y : System) → y .last ≡ 750 → r ≡ true → AllInPlace y (now (ls .entry))) ⌝ }
+{
+    let mut all = true;
+    let mut k = 0;
+    while k < ls.len() / 2 {
+        all = all & (ls[2 * k + 1] <= 3) & frame::is_allowed_in_720(Line(ls[2 * k]));
+        k += 1;
+    }
+    all
+}
+
+// The last line tells 1080 from 720.
+fn all_in_place(last: Line, ls: &[u16]) -> bool
+    ensures { λ r. ⌜ ((y : System) → y .last ≡ last .0 → r ≡ true → AllInPlace y (now (ls .entry))) ⌝ }
+{
+    if last.0 == 1125 {
+        return all_in_1080(ls);
+    }
+    if last.0 == 750 {
+        return all_in_720(ls);
+    }
+    false
+}
+
+// What in_place gives, of P locations: the first that is not in its place is looked for only where there is one.
+fn placed(last: Line, p: usize, ls: &[u16]) -> usize
+    requires { ⌜ length (now ls) ≡ 2 * p ⌝ }
+    ensures { λ r. ⌜ ((y : System) → y .last ≡ last .0 → r ≡ inFront (inPlace y) (now (ls .entry))) ⌝ }
+{
+    if all_in_place(last, ls) {
+        return p;
+    }
+    in_place(last, ls)
 }
 
 // "after 6 on all locations" 20 (document 02, A3), of P locations of which the k-th is the first that is not in its place.
@@ -113,7 +163,7 @@ fn list_tests(system: u64, last: Line, s: &[u16]) -> Tested
     }
     let end = 3 + 2 * p;
     let ls = &s[3..end];
-    let k = in_place(last, ls);
+    let k = placed(last, p, ls);
     if k != p {
         return location_fault(last, p, k, ls);
     }

@@ -48,8 +48,10 @@ part-ls-start c = search needs
 part-ls-end : tie.Need-part-ls-end
 part-ls-end c = let l = begins (c .before) in omega arith
 
-in-place-requires : tie.Need-in-place-requires
-in-place-requires c κs = search needs
+placed-requires : tie.Need-placed-requires
+placed-requires c κs =
+    let b : tie.After-wide = c .before .before in
+    pairs (b .before .before .before .args .s .now) _ (b .wide .ensures .0) (b .before .before .before .pre)
 
 location-fault-requires : tie.Need-location-fault-requires
 location-fault-requires c κs =
@@ -64,7 +66,7 @@ returns-2 c =
     let p = b .before .wide .ensures .0 in
     λ y e.
     location-refused _ y s _ p (b .before .before .before .before .pre) (omega arith) _
-    (c .location-fault .ensures y e (c .before .before .in-place .ensures y e) (c .before .if2 .taken))
+    (c .location-fault .ensures y e (c .before .before .placed .ensures y e) (c .before .if2 .taken))
 
 add-first : tie.Need-add-first
 add-first c = search needs
@@ -100,7 +102,7 @@ returns-3 c =
     let p = b .before .wide .ensures .0 in
     let t = r .before .before .packets .ensures in
     λ y e.
-    let k = n .before .in-place .ensures y e in
+    let k = n .before .placed .ensures y e in
     c .refusal2 .ensures
     ∙ packet-refused _ y s _ p (b .before .before .before .before .pre) (omega arith) _ k (n .if2 .left) _ t (r .if3 .taken) _
     (c .before .word-named .ensures)
@@ -118,7 +120,7 @@ returns-4 c =
     let p = b .before .wide .ensures .0 in
     let t = r .before .before .packets .ensures in
     λ y e.
-    let k = n .before .in-place .ensures y e in
+    let k = n .before .placed .ensures y e in
     c .refusal3 .ensures
     ∙ differ _ y s _ p (b .before .before .before .before .pre) (omega arith) _ k (n .if2 .left) _ t (r .if3 .left) (c .before .if4 .taken)
 
@@ -132,7 +134,7 @@ returns-5 c =
     let p = b .before .wide .ensures .0 in
     let t = r .before .before .packets .ensures in
     λ y e.
-    let k = n .before .in-place .ensures y e in
+    let k = n .before .placed .ensures y e in
     whole _ y s _ p (b .before .before .before .before .pre) (omega arith) _ k (n .if2 .left) _ t (r .if3 .left) (c .if4 .left)
 
 pub list-tests-spec : {M : Type 1} → statement M
@@ -148,7 +150,7 @@ list-tests-spec =
     sub-ls
     part-ls-start
     part-ls-end
-    in-place-requires
+    placed-requires
     location-fault-requires
     returns-2
     add-first
