@@ -55,6 +55,9 @@ CASES = [
     ("read-element", 2, 0, MORE_CUES, "sound"),
     ("read-element", 2, 0, MOST, "sound"),
 ]
+# What is not within the bars yet, and what it has reached: it may not get worse than that. A case that comes within its bar leaves this list.
+HELD = {}
+HELD_MEANS = {"plain C": 0.60, "tuned C": 0.85}
 CALLS = 20
 
 
@@ -136,11 +139,21 @@ def digits(ratio, bar):
     return f"{ratio:.2f}" if round(ratio, 2) > bar else f"{ratio:.6f}"
 
 
+def mean_ratios(ratios):
+    """Each mean, its bar, and what it is of."""
+    plain, tuned, _ = map(mean, zip(*ratios.values()))
+    return [(plain, MEAN_PLAIN, "plain C"), (tuned, MEAN_TUNED, "tuned C")]
+
+
 def failures(ratios):
     """What is not within the bars of instructions: cases, and then means."""
-    plain, tuned, _ = map(mean, zip(*ratios.values()))
-    means = [(plain, MEAN_PLAIN, "plain C"), (tuned, MEAN_TUNED, "tuned C")]
-    return over(ratios, BETTER) + [f"the mean ratio to {c} ({digits(ratio, bar)})" for ratio, bar, c in means if ratio > bar]
+    return over(ratios, BETTER) + [f"the mean ratio to {c} ({digits(ratio, bar)})" for ratio, bar, c in mean_ratios(ratios) if ratio > bar]
+
+
+def worse(ratios):
+    """What is over its bar and over what it had reached."""
+    cases = [f"{case} ({digits(ratio, HELD.get(case, BETTER))})" for case, (_, _, ratio) in ratios.items() if ratio > HELD.get(case, BETTER)]
+    return cases + [f"the mean ratio to {c} ({digits(ratio, HELD_MEANS[c])})" for ratio, _, c in mean_ratios(ratios) if ratio > HELD_MEANS[c]]
 
 
 def print_growth():
@@ -155,11 +168,14 @@ def print_growth():
 def print_tables():
     print(f"x86-64 instructions of one call, system 1 where no other is named. Library: {TOOLCHAIN}. C: gcc {COMPILER} -O3.")
     print()
-    failed = failures(print_table(counted))
+    ratios = print_table(counted)
+    missed, failed = failures(ratios), worse(ratios)
     print()
     print(f"Bars of the instructions above: in every case at most {BETTER:.2f} of the better of the two baselines; in the mean")
     print(f"at most {MEAN_PLAIN:.2f} of plain C, and {MEAN_TUNED:.2f} of tuned C.")
-    print(f"NOT within the bars: {'; '.join(failed)}." if failed else "Within the bars.")
+    print(f"Over a bar: {'; '.join(missed)}." if missed else "Within the bars.")
+    if missed:
+        print(f"WORSE than had been reached: {'; '.join(failed)}." if failed else "Each of these is held at what it had reached.")
     if COMPILER != BARS_WITH:
         print(f"With gcc {COMPILER} that is no verdict: the bars are stated for gcc {BARS_WITH}.")
     if platform.machine() == "x86_64":
