@@ -40,7 +40,7 @@ words-past (suc n) (w ∷ s) l h = one-wrong (isWord w) (areWords (take n s)) n 
 
 -- ---- DID, SDID and DC
 
-heads : (s : List ℕ) → 6 ≤ length s → take 3 (drop 3 s) ≡ getD s 3 0 ∷ getD s 4 0 ∷ getD s 5 0 ∷ []
+pub heads : (s : List ℕ) → 6 ≤ length s → take 3 (drop 3 s) ≡ getD s 3 0 ∷ getD s 4 0 ∷ getD s 5 0 ∷ []
 heads [] h = absurd (omega arith)
 heads (x ∷ []) h = absurd (omega arith)
 heads (x ∷ y ∷ []) h = absurd (omega arith)

@@ -11,7 +11,7 @@ use native.Mathlib.Omega.{arith}
 use lib.Dec.{eqb, ltb, leb}
 use lib.ListN.{length, getD, take, drop, length-append, length-drop, drop-of-length-le}
 use lib.Seq.{length-take-le, getD-take, getD-drop, drop-drop}
-use borrow.Author.Tests.{ltb-false, lt-ltb, le-ltb, le-leb}
+use borrow.Author.Tests.{ltb-true, ltb-false, leb-true, leb-false, eqb-true, eqb-false, lt-ltb, le-ltb, lt-leb, le-leb}
 use Rattle.rules.specs.Base.{All}
 use Rattle.rules.specs.Systems.{System}
 use Rattle.rules.specs.Packet.{Packet, words}
@@ -23,7 +23,7 @@ use Rattle.rules.proofs.Basics.{never}
 use Rattle.rules.proofs.Rows.{Anything, row-read, row-enough}
 use Rattle.rules.proofs.Words.{packet-words}
 use Rattle.rules.proofs.Strings.{danc-length, bytes-packet, bytes-rest}
-use Rattle.sheet.specs.Write.{sizeIn, shownFault, shownRow, shown, listIn, packetsShown, Whole, countFrom}
+use Rattle.sheet.specs.Write.{sizeIn, shownFault, shownRow, shown, listIn, packetsShown, Whole, countFrom, countTo}
 
 -- ---- what is laid is shown
 
@@ -165,24 +165,52 @@ module _ (us : List ℕ) (end at k : ℕ) (inside : end ≤ length us) where
   left : length (drop at s) ≡ end - at
   left = length-drop at s ∙ ap (λ (n : ℕ). n - at) (length-take-le end us inside)
 
-  pub measure-none : end - at ≡ 0 → k ≡ here
-  measure-none h = rw (shown-none (drop at s) (left ∙ h)) (omega arith)
+  few : at < end → end - at < 7 → here ≡ 65536
+  few n h = let l = left in rw (shown-few (drop at s) (omega arith) (omega arith))
 
-  pub measure-few : (end - at ≡ 0 → ⊥) → end - at < 7 → 65536 ≡ here
-  measure-few n h = let l = left in rw (shown-few (drop at s) (omega arith) (omega arith))
+  -- no packet is read here: the packets end with the string, or past it, or too little of it is left
+  pub measure-end : end < at + 7 → cond (eqb at end) k 65536 ≡ countTo end at k us
+  measure-end h = go (ltb at end) (eqb at end) refl refl
+    where
+      go : (a b : Bool) → ltb at end ≡ a → eqb at end ≡ b → cond (eqb at end) k 65536 ≡ countTo end at k us
+      go true true p q = let l = ltb-true at end p in let e = eqb-true at end q in absurd (omega arith)
+      go true false p q =
+          let l = ltb-true at end p in
+          rw (q, le-leb at end (omega arith)) (sym (few (omega arith) (omega arith)))
+      go false true p q =
+          let e = eqb-true at end q in
+          rw (q, le-leb at end (omega arith), shown-none (drop at s) (left ∙ (omega arith))) (omega arith)
+      go false false p q =
+          let l = ltb-false at end p in
+          let n = eqb-false at end q in
+          rw (q, lt-leb at end (omega arith))
 
-  module _ (dc : ℕ) (e : dc ≡ getD us (at + 5) 0) (h : 7 ≤ end - at) where
-    dc-is : dc ≡ getD s (at + 5) 0
-    dc-is = e ∙ sym (getD-take end us (at + 5) 0 (omega arith))
+  module _ (dc : ℕ) (e : dc ≡ getD us (at + 5) 0) (h : at < end) where
+    past : end < at + (dc + 7) → here ≡ 65536
+    past c = go (leb (at + 7) end) refl
+      where
+        go : (b : Bool) → leb (at + 7) end ≡ b → here ≡ 65536
+        go true p =
+            let m = leb-true (at + 7) end p in
+            let l = left in
+            let z = size-at s at dc (e ∙ sym (getD-take end us (at + 5) 0 (omega arith))) in
+            rw (shown-cut (drop at s) (omega arith) (omega arith))
+        go false p = let m = leb-false (at + 7) end p in few h (omega arith)
 
-    pub measure-cut : end - at < dc + 7 → 65536 ≡ here
-    measure-cut c = let l = left in let z = size-at s at dc dc-is in rw (shown-cut (drop at s) (omega arith) (omega arith))
-
-    pub measure-more : (r : ℕ) → dc + 7 ≤ end - at → r ≡ countFrom (k + 1) (shown (drop (at + (dc + 7)) s)) → r ≡ here
-    measure-more r c q =
+    further : at + (dc + 7) ≤ end → countFrom (k + 1) (shown (drop (at + (dc + 7)) s)) ≡ here
+    further c =
+        let f : dc ≡ getD s (at + 5) 0 = e ∙ sym (getD-take end us (at + 5) 0 (omega arith)) in
         let l = left in
-        let z = size-at s at dc dc-is in
-        q ∙ ap (λ (t : List ℕ). countFrom (k + 1) (shown t)) (sym (rest-at s at dc dc-is)) ∙ count-more k (drop at s) (omega arith) (omega arith)
+        let z = size-at s at dc f in
+        ap (λ (t : List ℕ). countFrom (k + 1) (shown t)) (sym (rest-at s at dc f)) ∙ count-more k (drop at s) (omega arith) (omega arith)
+
+    -- one packet is passed over, whether or not it is whole
+    pub measure-more : countTo end (at + (dc + 7)) (k + 1) us ≡ countTo end at k us
+    measure-more = rw (le-leb at end (omega arith)) (go (leb (at + (dc + 7)) end) refl)
+      where
+        go : (b : Bool) → leb (at + (dc + 7)) end ≡ b → countTo end (at + (dc + 7)) (k + 1) us ≡ here
+        go true p = rw p (further (leb-true (at + (dc + 7)) end p))
+        go false p = rw p (sym (past (leb-false (at + (dc + 7)) end p)))
 
 -- ---- whole packets
 

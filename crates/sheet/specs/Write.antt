@@ -8,7 +8,7 @@ use mathlib.Core.Path.{_≡_}
 use mathlib.Core.Bool.{Bool, true, false, cond, _&&_, _||_}
 use mathlib.Core.List.{List, [], _∷_, _++_, map}
 use lib.Dec.{eqb, ltb, leb}
-use lib.ListN.{length, getD, drop}
+use lib.ListN.{length, getD, take, drop}
 use Rattle.rules.specs.Packet.{Packet, word, check}
 use Rattle.rules.specs.Sheet.{allWords, sheetOf}
 use Rattle.rules.specs.Numbers.{Outcome, listed, refused, Row, packetsIn}
@@ -69,6 +69,14 @@ sheetAfter sys s buffer = afterOf sys buffer (shown s)
 unfoldable pub framed : List ℕ → List ℕ
 framed ws = 0x000 ∷ 0x3FF ∷ 0x3FF ∷ ws ++ check ws ∷ []
 
+-- the first six words of a packet from its bytes: "000h, 3FFh, 3FFh; DID; SDID or DBN; DC"
+abbrev pub headOf : List ℕ → List ℕ
+headOf s = 0x000 ∷ 0x3FF ∷ 0x3FF ∷ word (getD s 3 0) ∷ word (getD s 4 0) ∷ word (getD s 5 0) ∷ []
+
+-- the sum of the three of these that CS is over
+abbrev pub idSum : List ℕ → ℕ
+idSum s = word (getD s 3 0) + word (getD s 4 0) + word (getD s 5 0)
+
 -- from the bytes of DID to the last user word, where the buffer is as long as the words are; or the buffer as it was
 unfoldable pub wordsAfter : List ℕ → List ℕ → List ℕ
 wordsAfter s buffer = cond (eqb (length buffer) (length s + 4)) (framed (map word s)) buffer
@@ -99,3 +107,8 @@ pub record Measured (packets : ℕ) (s out : List ℕ) : Type 0 where
 abbrev pub countFrom : ℕ → Outcome → ℕ
 countFrom k (listed ps) = k + length ps
 countFrom k (refused n i) = 65536
+
+-- the packets of a run from a place on, as far as the string goes that is its front, and k before them; packets that have gone past its end are
+-- not whole
+abbrev pub countTo : ℕ → ℕ → ℕ → List ℕ → ℕ
+countTo end at k us = cond (leb at end) (countFrom k (shown (drop at (take end us)))) 65536

@@ -1,28 +1,31 @@
 -- What is written of a sheet so far, and then what is still to be written.
 --
--- In order: bytes as words; locations; the words of packets; the words of one packet; the sections; the sheet.
+-- In order: bytes as words; locations; the words of packets; the words of one packet, and by the table; the sections; the sheet.
 -- Assumes nothing.
-use Prim.Native.Nat.{ℕ, zero, suc, _+_, _-_, _*_, _≤_, _<_}
+use Prim.Native.Nat.{ℕ, zero, suc, _+_, _-_, _*_, _%_, _≤_, _<_}
 use mathlib.Core.Path.{_≡_, refl, sym, ap, ap₂, _∙_}
 use mathlib.Core.Bool.{true, false}
 use mathlib.Core.List.{List, [], _∷_, _++_, map}
 use native.Mathlib.Omega.{arith}
 use native.Mathlib.Numerals.{add-one, add-three, add-seven}
 use lib.Dec.{leb}
-use lib.ListN.{length, getD, take, drop, set, length-drop, length-set, length-map, take-append-drop}
-use lib.Seq.{length-take-le, getD-take, getD-drop, drop-cons, drop-drop, take-at, drop-at, take-all, take-take}
+use lib.ListN.{length, getD, take, drop, set, length-append, length-drop, length-set, length-map, take-append-drop}
+use lib.Seq.{length-take-le, getD-take, getD-drop, drop-cons, drop-drop, take-add, take-at, drop-at, take-all, take-take, take-suc-set}
 use borrow.Author.Tests.{lt-leb, le-leb, eq-eqb, ne-eqb}
-use Rattle.rules.specs.Packet.{Packet, body, word, check, coded, checkOf, words}
+use Rattle.rules.specs.Packet.{Packet, body, ones, parity, word, sum9, check, coded, checkOf, words}
 use Rattle.rules.specs.Sheet.{locations, allWords, sheetOf}
 use Rattle.rules.specs.Numbers.{Outcome, listed, refused}
 use Rattle.rules.specs.Reading.{lineOf, flagsOf, packetOfBytes}
 use Rattle.rules.proofs.Basics.{second-false}
 use Rattle.rules.proofs.Words.{words-room}
 use Rattle.rules.proofs.Sheets.{sheet-length}
+use Rattle.packet.specs.Run.{checkSum, wordTable}
+use Rattle.packet.proofs.Laws.{table-at, check-of-sum}
+use Rattle.packet.proofs.Faults.{heads}
 use Rattle.sheet.specs.Write.{sizeIn, shown, hasRoom, wroteOf, wrote, afterOf, sheetAfter, framed, wordsAfter, listIn, packetsShown, Whole}
-use Rattle.sheet.specs.Write.{Measured, countFrom}
-use Rattle.sheet.proofs.Filling.{one-more, two-more, part-long, part-behind, part-more, all-written, threeOf, backOf, three-tail, back-set}
-use Rattle.sheet.proofs.Filling.{sheet-before, sheet-lent, sheet-long, sheet-filled}
+use Rattle.sheet.specs.Write.{headOf, idSum, Measured, countFrom}
+use Rattle.sheet.proofs.Filling.{one-more, two-more, part-long, part-behind, part-front, part-more, all-written}
+use Rattle.sheet.proofs.Filling.{threeOf, backOf, three-tail, back-set, sheet-before, sheet-lent, sheet-long, sheet-filled}
 use Rattle.sheet.proofs.WriteLaws.{size-at, words-long, whole-long, words-short, pass, passed-all}
 
 -- ---- bytes as words
@@ -33,6 +36,14 @@ coded-more s out i w h l e inv =
     one-more out i w (map word (drop (i + 1) s)) (omega arith)
     ∙ rw (e, add-one i) (ap (λ (t : List ℕ). take i out ++ map word t) (sym (drop-cons s i 0 h)))
     ∙ inv
+
+-- with the sum of the words: their bits 9 fall out modulo 512
+pub sum-more : (s : List ℕ) (i w sum goal : ℕ) → i < length s → w ≡ word (getD s i 0) → (sum + sum9 (map word (drop i s))) % 512 ≡ goal
+    → (sum + w + sum9 (map word (drop (i + 1) s))) % 512 ≡ goal
+sum-more s i w sum goal h e inv =
+    let d : sum9 (map word (drop i s)) ≡ w % 512 + sum9 (map word (drop (i + 1) s)) =
+    rw (e, add-one i) (ap (λ (t : List ℕ). sum9 (map word t)) (drop-cons s i 0 h)) in
+    omega arith
 
 -- a part of them
 map-take : (n : ℕ) (s : List ℕ) → take n (map word s) ≡ map word (take n s)
@@ -108,12 +119,12 @@ body-bytes (a ∷ b ∷ c ∷ d ∷ e ∷ n ∷ t) h =
     rw (k, add-three n) (ap (λ (m : ℕ). d ∷ e ∷ m ∷ take n t) (sym l))
 
 -- between flag and CS their words are those of the packet
-framed-bytes : (s : List ℕ) → length s ≡ sizeIn s → framed (take (length (map word s) - 4) (drop 3 (map word s))) ≡ words (packetOfBytes s)
+framed-body : (s : List ℕ) → length s ≡ sizeIn s → framed (map word (take (length s - 4) (drop 3 s))) ≡ words (packetOfBytes s)
 unfolding framed words coded checkOf
-framed-bytes s h =
-    let e : take (length (map word s) - 4) (drop 3 (map word s)) ≡ map word (body (packetOfBytes s)) =
-    rw (length-map s word, map-drop 3 s, map-take (length s - 4) (drop 3 s)) (ap (map word) (body-bytes s h)) in
-    ap (λ (t : List ℕ). 0x000 ∷ 0x3FF ∷ 0x3FF ∷ (t ++ check t ∷ [])) e
+framed-body s h = ap (λ (t : List ℕ). framed (map word t)) (body-bytes s h)
+
+framed-bytes : (s : List ℕ) → length s ≡ sizeIn s → framed (take (length (map word s) - 4) (drop 3 (map word s))) ≡ words (packetOfBytes s)
+framed-bytes s h = rw (length-map s word, map-drop 3 s, map-take (length s - 4) (drop 3 s)) (framed-body s h)
 
 -- the bytes of one packet, cut out of a string
 module _ (t : List ℕ) (n : ℕ) (h : n ≡ sizeIn t) (k : n ≤ length t) where
@@ -132,12 +143,14 @@ module _ (t : List ℕ) (n : ℕ) (h : n ≡ sizeIn t) (k : n ≤ length t) wher
       go (a ∷ b ∷ c ∷ d ∷ e ∷ []) = refl
       go (a ∷ b ∷ c ∷ d ∷ e ∷ f ∷ u) = let h : f ≤ suc f = omega arith in rw (add-seven f, take-take f (suc f) u h)
 
--- the words of the packets before `at` are written, and behind them those of the bytes
+-- the words of the packets before `at` are written
 pub record Wording (s out : List ℕ) (at : ℕ) : Type 0 where
   pub whole : Whole (drop at s)
-  pub coded : drop at out ≡ map word (drop at s)
   pub long : length out ≡ length s
   pub rest : take at out ++ allWords (packetsShown (drop at s)) ≡ allWords (packetsShown s)
+
+pub wording-none : (s out : List ℕ) → Whole s → length out ≡ length s → Wording s out 0
+wording-none s out w l = record { whole = w; long = l; rest = refl }
 
 pub wording-all : (s out : List ℕ) (at : ℕ) → Wording s out at → length s ≤ at → out ≡ allWords (packetsShown s)
 wording-all s out at was h =
@@ -161,51 +174,65 @@ module _ (s out : List ℕ) (at dc : ℕ) (was : Wording s out at) (h : at < len
   enough : end - at ≤ length (drop at s)
   enough = let k = inside in let d = length-drop at s in omega arith
 
-  -- what is lent: the words of a packet's bytes
-  pub wording-lent : 4 ≤ length (take (end - at) (drop at out))
-  wording-lent =
+  -- what is lent: a packet's bytes, and as much to write in
+  pub bytes-long : length bytes ≡ dc + 7
+  bytes-long = length-take-le (end - at) (drop at s) enough ∙ (omega arith)
+
+  pub out-long : length (take (end - at) (drop at out)) ≡ dc + 7
+  out-long =
       let k = inside in
       let l = was .long in
-      let a = length-take-le (end - at) (drop at out) (let d = length-drop at out in omega arith) in
-      omega arith
+      length-take-le (end - at) (drop at out) (let d = length-drop at out in omega arith) ∙ (omega arith)
+
+  -- the words that are written there: from the bytes, or where the words of the bytes stand already
+  pub words-of-bytes : framed (map word (take (length bytes - 4) (drop 3 bytes))) ≡ words (packetOfBytes (drop at s))
+  words-of-bytes = framed-body bytes (part-size (drop at s) (end - at) size enough) ∙ ap words (part-packet (drop at s) (end - at) size enough)
+
+  pub words-of-coded : drop at out ≡ map word (drop at s)
+      → framed (take (length (take (end - at) (drop at out)) - 4) (drop 3 (take (end - at) (drop at out)))) ≡ words (packetOfBytes (drop at s))
+  words-of-coded coded =
+      let e : take (end - at) (drop at out) ≡ map word bytes = ap (take (end - at)) coded ∙ map-take (end - at) (drop at s) in
+      ap (λ (t : List ℕ). framed (take (length t - 4) (drop 3 t))) e
+      ∙ framed-bytes bytes (part-size (drop at s) (end - at) size enough)
+      ∙ ap words (part-packet (drop at s) (end - at) size enough)
 
   -- what comes back
-  module _ (ys : List ℕ) (q : ys ≡ framed (take (length (take (end - at) (drop at out)) - 4) (drop 3 (take (end - at) (drop at out))))) where
-    ys-are : ys ≡ words (packetOfBytes (drop at s))
-    ys-are =
-        let e : take (end - at) (drop at out) ≡ map word bytes = ap (take (end - at)) (was .coded) ∙ map-take (end - at) (drop at s) in
-        q
-        ∙ ap (λ (t : List ℕ). framed (take (length t - 4) (drop 3 t))) e
-        ∙ framed-bytes bytes (part-size (drop at s) (end - at) size enough)
-        ∙ ap words (part-packet (drop at s) (end - at) size enough)
+  module _ (ys : List ℕ) (q : ys ≡ words (packetOfBytes (drop at s))) where
+    abbrev further : List ℕ
+    further = take at out ++ (ys ++ drop (end - at) (drop at out))
 
     ys-long : length ys ≡ end - at
     ys-long =
         let n = words-long (drop at s) (let k = enough in let z = size in omega arith) in
-        ap length ys-are ∙ n ∙ sym size
+        ap length q ∙ n ∙ sym size
 
-    pub wording-more : Wording s (take at out ++ (ys ++ drop (end - at) (drop at out))) end
+    pub wording-more : Wording s further end
     wording-more =
         let p = pass s at dc (was .whole) h e in
         let k = p .inside in
         let l = was .long in
         let qs : List Packet = packetsShown (drop end s) in
-        let again : at + (end - at) ≡ end = omega arith in
         let n : allWords (packetsShown (drop at s)) ≡ ys ++ allWords qs =
-        ap allWords (p .front) ∙ ap (λ (v : List ℕ). v ++ allWords qs) (sym ys-are) in
+        ap allWords (p .front) ∙ ap (λ (v : List ℕ). v ++ allWords qs) (sym q) in
         record {
           whole = p .rest;
-          coded =
-              part-behind out ys at end (omega arith) (omega arith) ys-long
-              ∙ ap (drop (end - at)) (was .coded)
-              ∙ map-drop (end - at) (drop at s)
-              ∙ ap (map word) (drop-drop (end - at) at s ∙ ap (λ (n : ℕ). drop n s) again);
           long = part-long out ys at end (omega arith) (omega arith) ys-long ∙ l;
           rest =
               part-more out ys at end (omega arith) (omega arith) ys-long (allWords qs)
               ∙ ap (λ (v : List ℕ). take at out ++ v) (sym n)
               ∙ was .rest;
         }
+
+    -- behind them the words of the bytes stand as they did
+    pub coded-behind : drop at out ≡ map word (drop at s) → drop end further ≡ map word (drop end s)
+    coded-behind coded =
+        let k = inside in
+        let l = was .long in
+        let again : at + (end - at) ≡ end = omega arith in
+        part-behind out ys at end (omega arith) (omega arith) ys-long
+        ∙ ap (drop (end - at)) coded
+        ∙ map-drop (end - at) (drop at s)
+        ∙ ap (map word) (drop-drop (end - at) at s ∙ ap (λ (n : ℕ). drop n s) again)
 
 -- ---- the words of one packet
 
@@ -268,6 +295,87 @@ module _ (s out ys : List ℕ) (h : length out ≡ length s + 4) (hy : ys ≡ ma
       let b : take (length between - 4) (drop 3 between) ≡ ys =
       ap₂ take n a ∙ take-at ys (drop (3 + length s - 3) (drop 3 out)) (length ys) refl in
       rw (eq-eqb (length out) (length s + 4) h) (e ∙ ap framed (b ∙ hy))
+
+-- ---- the words of one packet, by the table
+
+small-of : (b p : ℕ) → b < 256 → p < 2 → b + 256 * p + 512 * (1 - p) < 1024
+small-of b p h k = omega arith
+
+word-small : (b : ℕ) → b < 256 → word b < 1024
+unfolding word parity
+word-small b h = small-of b (ones b % 2) h (omega arith)
+
+pub looked-up : (t : List ℕ) (b r : ℕ) → t ≡ wordTable → r ≡ b → r < 256 → (getD t r 0 ≡ word b) × (getD t r 0 < 1024)
+looked-up t b r right e h =
+    let w : getD t r 0 ≡ word r = rw right (table-at r h) in
+    (w ∙ ap word e, let k = word-small r h in omega arith)
+
+pub six-set : (out : List ℕ) (a b c : ℕ) → 6 ≤ length out
+    → set (set (set (threeOf out 0x000 0x3FF 0x3FF) 3 a) 4 b) 5 c ≡ (0x000 ∷ 0x3FF ∷ 0x3FF ∷ a ∷ b ∷ c ∷ []) ++ drop 6 out
+six-set [] a b c h = absurd (omega arith)
+six-set (x ∷ []) a b c h = absurd (omega arith)
+six-set (x ∷ y ∷ []) a b c h = absurd (omega arith)
+six-set (x ∷ y ∷ z ∷ []) a b c h = absurd (omega arith)
+six-set (x ∷ y ∷ z ∷ d ∷ []) a b c h = absurd (omega arith)
+six-set (x ∷ y ∷ z ∷ d ∷ e ∷ []) a b c h = absurd (omega arith)
+six-set (x ∷ y ∷ z ∷ d ∷ e ∷ f ∷ out) a b c h = refl
+
+-- a number more in a sum modulo 512, its low nine bits in the other
+nine-more : (a x y : ℕ) → x % 512 ≡ y % 512 → (a + x) % 512 ≡ (a % 512 + y) % 512
+nine-more a x y e = omega arith
+
+three-more : (a b c x y : ℕ) → x % 512 ≡ y % 512 → (a + b + c + x) % 512 ≡ (a % 512 + (b % 512 + (c % 512 + y))) % 512
+three-more a b c x y e =
+    let n : a + b + c + x ≡ a + (b + (c + x)) = omega arith in
+    rw n (nine-more a (b + (c + x)) (b % 512 + (c % 512 + y)) (nine-more b (c + x) (c % 512 + y) (nine-more c x y e)))
+
+-- the first six words stand in front of what was there
+module _ (s out hs : List ℕ) (h : 7 ≤ length s) (l : length out ≡ length s) (hh : hs ≡ headOf s ++ drop 6 out) where
+  pub headed-long : length hs ≡ length s
+  headed-long =
+      let k = length-append (headOf s) (drop 6 out) in
+      let d = length-drop 6 out in
+      ap length hh ∙ (omega arith)
+
+  -- the user words have come back, and then CS is written
+  module _ (ys : List ℕ) (hy : ys ≡ map word (take (length s - 1 - 6) (drop 6 s))) where
+    abbrev users : List ℕ
+    users = take 6 hs ++ (ys ++ drop (length s - 1 - 6) (drop 6 hs))
+
+    abbrev coded-words : List ℕ
+    coded-words = map word (take (length s - 4) (drop 3 s))
+
+    count : length ys ≡ length s - 1 - 6
+    count =
+        let d = length-drop 6 s in
+        ap length hy ∙ length-map (take (length s - 1 - 6) (drop 6 s)) word ∙ length-take-le (length s - 1 - 6) (drop 6 s) (omega arith)
+
+    pub users-long : length users ≡ length s
+    users-long = let k = headed-long in part-long hs ys 6 (length s - 1) (omega arith) (omega arith) count ∙ k
+
+    coded-are : coded-words ≡ word (getD s 3 0) ∷ word (getD s 4 0) ∷ word (getD s 5 0) ∷ ys
+    coded-are =
+        let n : length s - 4 ≡ 3 + (length s - 1 - 6) = omega arith in
+        rw (n, take-add 3 (length s - 1 - 6) (drop 3 s), drop-drop 3 3 s, heads s (omega arith), hy)
+
+    pub packet-written : (ids sum cs : ℕ) → ids ≡ idSum s → sum % 512 ≡ sum9 ys % 512 → cs ≡ checkSum (ids + sum)
+        → set users (length s - 1) cs ≡ framed coded-words
+    unfolding framed
+    packet-written ids sum cs e f g =
+        let k = users-long in
+        let m = headed-long in
+        let c = count in
+        let last : ℕ = length s - 1 in
+        let n : length (set users last cs) ≡ last + 1 = length-set users last cs ∙ (omega arith) in
+        let front : take last users ≡ headOf s ++ ys =
+        part-front 6 (last - 6) last hs ys (omega arith) (omega arith) ∙ ap (λ (t : List ℕ). take 6 t ++ ys) hh in
+        let nine : (ids + sum) % 512 ≡ sum9 coded-words % 512 =
+        rw (e, coded-are) (three-more (word (getD s 3 0)) (word (getD s 4 0)) (word (getD s 5 0)) sum (sum9 ys) f) in
+        let cs-is : cs ≡ check coded-words = g ∙ check-of-sum (ids + sum) coded-words nine in
+        sym (take-all (last + 1) (set users last cs) (omega arith))
+        ∙ rw (add-one last) (take-suc-set users last cs (omega arith))
+        ∙ ap (λ (t : List ℕ). t ++ cs ∷ []) front
+        ∙ ap₂ (λ (t : List ℕ) (w : ℕ). 0x000 ∷ 0x3FF ∷ 0x3FF ∷ (t ++ w ∷ [])) (sym coded-are) cs-is
 
 -- ---- the sections
 

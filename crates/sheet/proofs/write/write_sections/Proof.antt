@@ -59,24 +59,30 @@ mul-out c = search needs
 slice-write-out-4 : tie.Need-slice-write-out-4
 slice-write-out-4 c = let l = long (c .before .before) in omega arith
 
-add-write-packets : tie.Need-add-write-packets
-add-write-packets c = search needs
+mul-if1 : tie.Need-mul-if1
+mul-if1 c =
+    let a = c .before .before .before .before .before .before in
+    let k = whole-long (a .args .s .now) (a .pre .whole) .few in
+    omega arith
 
-mul-write-packets : tie.Need-mul-write-packets
-mul-write-packets c = search needs
+add-write-short-packets : tie.Need-add-write-short-packets
+add-write-short-packets c = search needs
 
-sub-write-packets : tie.Need-sub-write-packets
-sub-write-packets c = let l = long (c .before .before) in simp length-set (omega arith)
+mul-write-short-packets : tie.Need-mul-write-short-packets
+mul-write-short-packets c = search needs
 
-part-write-packets-start : tie.Need-part-write-packets-start
-part-write-packets-start c = let l = long (c .before .before) in simp length-set (omega arith)
+sub-write-short-packets : tie.Need-sub-write-short-packets
+sub-write-short-packets c = let l = long (c .before .before .before) in simp length-set (omega arith)
 
-part-write-packets-end : tie.Need-part-write-packets-end
-part-write-packets-end c = search needs
+part-write-short-packets-start : tie.Need-part-write-short-packets-start
+part-write-short-packets-start c = let l = long (c .before .before .before) in simp length-set (omega arith)
 
-write-packets-requires : tie.Need-write-packets-requires
-write-packets-requires c κs =
-    let d = c .before .before .before in
+part-write-short-packets-end : tie.Need-part-write-short-packets-end
+part-write-short-packets-end c = search needs
+
+write-short-packets-requires : tie.Need-write-short-packets-requires
+write-short-packets-requires c κs =
+    let d = c .before .before .before .before in
     let a = d .before .before .before .before in
     let pairs = d .write-locations in
     let z = a .args in
@@ -84,16 +90,57 @@ write-packets-requires c κs =
 
 same-length : tie.Need-same-length
 same-length c =
-    let d = c .before .before .before .before .before .before in
+    let d = c .before .before .before .before .before .before .before in
+    let a = d .before .before .before .before in
+    let pairs = d .write-locations in
+    let words = c .before .before .write-short-packets in
+    sections-long (a .args .system) (a .args .packets) (a .args .s .now) (a .args .out .now) (pairs .last .1 .0) (a .pre) (pairs .ensures)
+    (words .last .1 .0) (words .ensures)
+
+returns : tie.Need-returns
+returns c =
+    let d = c .before .before .before .before .before .before .before in
+    let a = d .before .before .before .before in
+    let pairs = d .write-locations in
+    let words = c .before .before .write-short-packets in
+    sections-written (a .args .system) (a .args .packets) (a .args .s .now) (a .args .out .now) (pairs .last .1 .0) (a .pre) (pairs .ensures)
+    (words .last .1 .0) (words .ensures)
+
+add-write-packets : tie.Need-add-write-packets
+add-write-packets c = search needs
+
+mul-write-packets : tie.Need-mul-write-packets
+mul-write-packets c = search needs
+
+sub-write-packets : tie.Need-sub-write-packets
+sub-write-packets c = let l = long (c .before .before .before) in simp length-set (omega arith)
+
+part-write-packets-start : tie.Need-part-write-packets-start
+part-write-packets-start c = let l = long (c .before .before .before) in simp length-set (omega arith)
+
+part-write-packets-end : tie.Need-part-write-packets-end
+part-write-packets-end c = search needs
+
+write-packets-requires : tie.Need-write-packets-requires
+write-packets-requires c κs =
+    let d = c .before .before .before .before in
+    let a = d .before .before .before .before in
+    let pairs = d .write-locations in
+    let z = a .args in
+    (a .pre .whole, words-lent (z .system) (z .packets) (z .s .now) (z .out .now) (pairs .last .1 .0) (a .pre) (pairs .ensures))
+
+same-length-2 : tie.Need-same-length-2
+same-length-2 c =
+    let d = c .before .before .before .before .before .before .before in
     let a = d .before .before .before .before in
     let pairs = d .write-locations in
     let words = c .before .before .write-packets in
     sections-long (a .args .system) (a .args .packets) (a .args .s .now) (a .args .out .now) (pairs .last .1 .0) (a .pre) (pairs .ensures)
     (words .last .1 .0) (words .ensures)
 
-returns : tie.Need-returns
-returns c =
-    let d = c .before .before .before .before .before .before in
+returns-2 : tie.Need-returns-2
+returns-2 c =
+    let d = c .before .before .before .before .before .before .before in
     let a = d .before .before .before .before in
     let pairs = d .write-locations in
     let words = c .before .before .write-packets in
@@ -117,11 +164,20 @@ write-sections-spec =
     cast-out-2
     mul-out
     slice-write-out-4
+    mul-if1
+    add-write-short-packets
+    mul-write-short-packets
+    sub-write-short-packets
+    part-write-short-packets-start
+    part-write-short-packets-end
+    write-short-packets-requires
+    same-length
+    returns
     add-write-packets
     mul-write-packets
     sub-write-packets
     part-write-packets-start
     part-write-packets-end
     write-packets-requires
-    same-length
-    returns)
+    same-length-2
+    returns-2)

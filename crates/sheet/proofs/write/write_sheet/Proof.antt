@@ -1,12 +1,13 @@
 -- `write::write_sheet` meets its contract: a law for each return. Assumes nothing.
 use Prim.Native.Nat.{ℕ, _+_, _*_, _≤_}
-use mathlib.Core.Path.{_≡_, sym}
+use mathlib.Core.Path.{_≡_, sym, _∙_}
 use mathlib.Core.List.{List}
 use native.Mathlib.Omega.{arith}
+use lib.Dec.{leb·zero}
 use lib.ListN.{length, take}
 use lib.Seq.{length-take-le}
 use borrow.Author.Needs.{needs}
-use Rattle.sheet.specs.Write.{packetsShown, Whole}
+use Rattle.sheet.specs.Write.{shown, packetsShown, Whole, countFrom}
 use Rattle.sheet.proofs.WriteLaws.{whole-long}
 use Rattle.sheet.proofs.write.Written.{not-whole, is-whole, no-room, all-room}
 use Rattle.sheet.proofs.write.write_sheet.Statement.{statement}
@@ -15,32 +16,35 @@ use Rattle.sheet.proofs.write.write_sheet.Tie as tie
 -- the string, once its end is within the array
 module _ (c : tie.After-measure) where
   abbrev start : tie.Start
-  start = c .before .before .before .before
+  start = c .before .before .before .before .before
 
   abbrev us : List ℕ
   us = start .args .us .now
 
   abbrev bytes : ℕ
-  bytes = c .before .within .result
+  bytes = c .before .before .within .result
 
   abbrev s : List ℕ
   s = take bytes us
 
   all : length us ≡ 9360
-  all = c .before .before .whole .given .0
+  all = c .before .before .before .whole .given .0
 
   same : s ≡ take (start .args .end) us
-  same = c .before .within .ensures .1 us all
+  same = c .before .before .within .ensures .1 us all
 
   long : length s ≡ bytes
   long = let l = all in length-take-le bytes us (omega arith)
+
+  counted : c .measure .result ≡ countFrom 0 (shown s)
+  counted = c .measure .ensures ∙ rw (leb·zero bytes)
 
 -- past the first test the bytes are whole packets, so many
 whole : (c : tie.Else1) → Whole (s (c .before)) × (c .before .measure .result ≡ length (packetsShown (s (c .before))))
 whole c =
     let a = start (c .before) .args in
     let l = long (c .before) in
-    is-whole (a .system) (s (c .before)) (a .sheet .now) (c .before .measure .result) (c .before .measure .ensures) (omega arith) (c .if1 .left)
+    is-whole (a .system) (s (c .before)) (a .sheet .now) (c .before .measure .result) (counted (c .before)) (omega arith) (c .if1 .left)
 
 few : (c : tie.Else1) → c .before .measure .result ≤ 9360
 few c =
@@ -52,6 +56,9 @@ few c =
 within-requires : tie.Need-within-requires
 within-requires c κs = search needs
 
+stop-of-requires : tie.Need-stop-of-requires
+stop-of-requires c κs = search needs
+
 measure-requires : tie.Need-measure-requires
 measure-requires c κs = search needs
 
@@ -60,7 +67,7 @@ returns c =
     let b = c .before in
     let a = start b .args in
     let l = long b in
-    rw (same b) at (not-whole (a .system) (s b) (a .sheet .now) (b .measure .result) (b .measure .ensures) (omega arith) (c .if1 .taken))
+    rw (same b) at (not-whole (a .system) (s b) (a .sheet .now) (b .measure .result) (counted b) (omega arith) (c .if1 .taken))
 
 mul-n : tie.Need-mul-n
 mul-n c = let f = few c in omega arith
@@ -117,6 +124,7 @@ write-sheet-spec =
     tie.close
     (tie.spec
     within-requires
+    stop-of-requires
     measure-requires
     returns
     mul-n
