@@ -1,10 +1,11 @@
 -- What the definitions of Judging say on each way through the code, over plain values.
 --
--- In order: a field; the key; the head; a structure's front; its array; the structures; the element.
+-- In order: a field; the key; the head; a structure's front; its array; one without a fault; the structures; the element.
 -- Assumes nothing.
 use Prim.Native.Nat.{ℕ, suc, _+_, _-_, _*_, _≤_, _<_}
 use mathlib.Core.Path.{_≡_, refl, sym, ap, _∙_, subst}
 use mathlib.Core.Bool.{Bool, true, false, cond, not, _&&_}
+use mathlib.Core.Logic.{_⊎_, ⊎-elim}
 use mathlib.Core.List.{List}
 use native.Mathlib.Nat.{add-zero, sub-zero}
 use native.Mathlib.Numerals.{add-one}
@@ -39,7 +40,7 @@ use Rattle.mxf.specs.Judging.{
   judged,
 }
 use Rattle.mxf.specs.Reading.{readOf}
-use Rattle.mxf.specs.Parts.{faultOr, Whole}
+use Rattle.mxf.specs.Parts.{faultOr, Whole, Passes, counted, addTo, wholeFrom}
 use Rattle.mxf.specs.declared.ElementRead.{ElementRead}
 
 -- ---- a field
@@ -269,6 +270,22 @@ module _ (at : ℕ) (s : List ℕ) (pos : 0 < at) (o : Outcome) where
             pub array-right : getD s 16 0 + 3 ≡ twoIn s 4 → arrayThen at s o ≡ o
             array-right h = from-dc ∙ right at s 16 1 _ _ (omega arith) (eq-eqb (getD s 16 0 + 3) (twoIn s 4) h)
 
+-- ---- one without a fault
+
+-- its line, wrapping and coding are right, and its array
+pub passes : (sys last : ℕ) (s : List ℕ) → last ≡ system sys .last → (twoIn s 0 ≡ 0 → ⊥) → twoIn s 0 ≤ last → getD s 2 0 ≡ wrapping sys
+    → (getD s 3 0 ≡ 4) ⊎ (getD s 3 0 ≡ 5) → Whole s → twoIn s 4 ≤ 258 → fourIn s 10 ≡ 1 → Passes sys s
+passes sys last s is some within wrapped coded w most single at o =
+    let a = w .there in
+    let b = w .room in
+    let d = w .dc in
+    let next : Outcome = arrayThen (22 + at) s o in
+    ⊎-elim
+    (luma sys last (22 + at) s (omega arith) is next (omega arith) some within (omega arith) _ refl wrapped (omega arith))
+    (colour sys last (22 + at) s (omega arith) is next (omega arith) some within (omega arith) _ refl wrapped (omega arith))
+    coded
+    ∙ array-right (22 + at) s (omega arith) o (omega arith) (omega arith) most (omega arith) b a single d
+
 -- ---- the structures
 
 -- numbers of bytes, from a place on
@@ -290,18 +307,6 @@ four-drop at i s =
     let f : threeIn (drop at s) (i + 1) ≡ threeIn s (at + i + 1) = three-drop at (i + 1) s ∙ ap (threeIn s) e in
     let g = getD-drop at s i 0 in
     omega arith
-
-abbrev counted : ℕ → ℕ → ElementRead
-counted k numbers = record { number = 0; place = 0; packets = k; numbers = numbers }
-
--- the figures of some packets, and those of a list behind them
-abbrev addTo : ℕ → ℕ → Outcome → ElementRead
-addTo k numbers (listed ps) = counted (k + length ps) (numbers + (2 * length ps + stringBytes ps))
-addTo k numbers (refused n i) = record { number = n; place = i; packets = 0; numbers = 0 }
-
--- the structures from a place on, with the packets in front of them: what is left of the whole
-abbrev pub wholeFrom : ℕ → Bool → ℕ → ℕ → ℕ → ℕ → List ℕ → ElementRead
-wholeFrom sys fi n k at numbers s = addTo k numbers (structures sys fi (n - k) (22 + at) (drop at s))
 
 add-nothing : (sys : ℕ) (o : Outcome) → addTo 0 4 o ≡ readOf sys o
 add-nothing sys (refused n i) = refl

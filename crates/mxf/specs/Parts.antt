@@ -1,19 +1,21 @@
 -- What the functions of this crate promise each other.
 --
--- In order: the place of a fault; a structure; the packets of structures; the answer of reading.
+-- In order: the place of a fault; a structure; structures that have been passed over; the packets of structures; the answer of reading.
 -- Assumes nothing.
-use Prim.Native.Nat.{ℕ, _+_, _≤_, _<_}
+use Prim.Native.Nat.{ℕ, _+_, _-_, _*_, _≤_, _<_}
 use mathlib.Core.Path.{_≡_}
 use mathlib.Core.Bool.{Bool, cond}
 use mathlib.Core.List.{List}
 use lib.Dec.{eqb}
-use lib.ListN.{length, getD}
+use lib.ListN.{length, getD, drop}
+use Rattle.rules.specs.Systems.{system}
 use Rattle.rules.specs.Packet.{Packet}
+use Rattle.rules.specs.Danc.{stringBytes}
 use Rattle.rules.specs.Sheet.{limit, allWords, sheetOf}
 use Rattle.rules.specs.Numbers.{Outcome, listed, refused}
 use Rattle.rules.specs.Reading.{bufferOf}
 use Rattle.sheet.specs.Write.{listIn}
-use Rattle.mxf.specs.Judging.{twoIn, fourIn, sizeIn, structures}
+use Rattle.mxf.specs.Judging.{twoIn, fourIn, sizeIn, frontThen, arrayThen, structures}
 use Rattle.mxf.specs.Reading.{readOf}
 use Rattle.mxf.specs.declared.ElementRead.{ElementRead}
 
@@ -30,6 +32,32 @@ pub record Whole (s : List ℕ) : Type 0 where
   pub there : sizeIn s ≤ length s
   pub room : twoIn s 4 ≤ fourIn s 6
   pub dc : getD s 16 0 + 3 ≡ twoIn s 4
+
+-- none of its fields is at fault, wherever it starts: what follows decides
+abbrev pub Passes : ℕ → List ℕ → Type 0
+Passes sys s = (at : ℕ) (o : Outcome) → frontThen sys (22 + at) s (arrayThen (22 + at) s o) ≡ o
+
+-- ---- structures that have been passed over
+
+abbrev pub counted : ℕ → ℕ → ElementRead
+counted k numbers = record { number = 0; place = 0; packets = k; numbers = numbers }
+
+-- the figures of some packets, and those of a list behind them
+abbrev pub addTo : ℕ → ℕ → Outcome → ElementRead
+addTo k numbers (listed ps) = counted (k + length ps) (numbers + (2 * length ps + stringBytes ps))
+addTo k numbers (refused n i) = record { number = n; place = i; packets = 0; numbers = 0 }
+
+-- the structures from a place on, with the packets in front of them: what is left of the whole
+abbrev pub wholeFrom : ℕ → Bool → ℕ → ℕ → ℕ → ℕ → List ℕ → ElementRead
+wholeFrom sys fi n k at numbers s = addTo k numbers (structures sys fi (n - k) (22 + at) (drop at s))
+
+-- k of n structures end at a place, and with their figures those from there on give what all of them give. A structure has more bytes than
+-- its packet has sheet numbers
+pub record Begun (sys last n : ℕ) (s : List ℕ) (k at numbers : ℕ) : Type 0 where
+  pub few : k ≤ n
+  pub inside : at ≤ length s
+  pub short : numbers ≤ 4 + at
+  pub same : last ≡ system sys .last → (fi : Bool) → wholeFrom sys fi n k at numbers s ≡ readOf sys (structures sys fi n 22 s)
 
 -- ---- the packets of structures
 

@@ -3,16 +3,16 @@
 use crate::ElementRead;
 use frame::Line;
 use frame::wide;
-ghost use Prim.Native.Nat.{_+_, _*_, _≤_, _<_};
+ghost use Prim.Native.Nat.{ℕ, _+_, _*_, _≤_, _<_};
 ghost use mathlib.Core.Path.{_≡_};
-ghost use mathlib.Core.Bool.{Bool};
+ghost use mathlib.Core.Bool.{Bool, true};
 ghost use lib.ListN.{length};
 ghost use Rattle.rules.specs.Systems.{system as systemOf};
 ghost use Rattle.rules.specs.Numbers.{Outcome, refused};
-ghost use Rattle.mxf.specs.Element.{key};
+ghost use Rattle.mxf.specs.Element.{key, wrapping as wrappingOf};
 ghost use Rattle.mxf.specs.Judging.{twoIn, threeIn, fourIn, frontThen, arrayThen, structures, keyThen, headThen, judged};
 ghost use Rattle.mxf.specs.Reading.{readOf};
-ghost use Rattle.mxf.specs.Parts.{faultOr, Whole};
+ghost use Rattle.mxf.specs.Parts.{faultOr, Whole, Passes, Begun};
 
 // On refusal the later figures are 0.
 pub fn refusal(number: u64, place: u64) -> ElementRead
@@ -161,15 +161,82 @@ fn structure_fault(system: u64, last: Line, at: usize, s: &[u8]) -> usize
     array_fault(at, s)
 }
 
+// Whether a structure has no fault, told with fewer tests: in its first 17 bytes each field is there, DC the last. A no says nothing.
+fn is_structure(wrapping: u8, last: Line, s: &[u8]) -> bool
+    ensures { λ r. ⌜ (r ≡ true → Whole (now (s .entry))) ⌝ }
+    ensures { λ r. ⌜ (r ≡ true → (system : ℕ) → wrapping ≡ wrappingOf system → last .0 ≡ systemOf system .last
+        → Passes system (now (s .entry))) ⌝ }
+{
+    if s.len() < 17 {
+        return false;
+    }
+    let line = two(s, 0);
+    if (last.0 as usize) < line || line == 0 {
+        return false;
+    }
+    if s[2] != wrapping {
+        return false;
+    }
+    if s[3] != crate::LUMA && s[3] != crate::COLOUR {
+        return false;
+    }
+    let samples = two(s, 4);
+    if samples != wide(s[16]) + 3 {
+        return false;
+    }
+    let count = four(s, 6);
+    if count < samples || s.len() - crate::FIELDS < count {
+        return false;
+    }
+    four(s, 10) == 1
+}
+
+// Structures in front that have been passed over: how many, where the last ends, and the numbers of their sheet.
+struct Passed {
+    count: usize,
+    at: usize,
+    numbers: usize,
+}
+
+// The structures in front that have no fault, up to the first of which `is_structure` says nothing: the bytes from there on, with these
+// figures, give the same answer. A packet of n samples has n + 4 words and a location.
+fn sound_structures(system: u64, last: Line, n: usize, s: &[u8]) -> Passed
+    requires { ⌜ (n < 65536) × (length (now s) < 16777216) ⌝ }
+    ensures { λ r. ⌜ Begun system (last .0) n (now (s .entry)) (r .count) (r .at) (r .numbers) ⌝ }
+{
+    let wrapping = crate::wrapping(system);
+    let mut k = 0;
+    let mut at = 0;
+    let mut numbers = 4;
+    while k < n {
+        if !is_structure(wrapping, last, &s[at..]) {
+            return Passed {
+                count: k,
+                at,
+                numbers,
+            };
+        }
+        numbers += two(s, at + 4) + 6;
+        at += crate::FIELDS + four(s, at + 6);
+        k += 1;
+    }
+    Passed {
+        count: k,
+        at,
+        numbers,
+    }
+}
+
 // N structures, from place 22 on: the first fault, "surplus bytes" after the last among them; or how many packets they show, and the
-// numbers of their sheet. A packet of n samples has n + 4 words and a location.
+// numbers of their sheet.
 fn judge_structures(system: u64, last: Line, n: usize, s: &[u8]) -> ElementRead
     requires { ⌜ (n < 65536) × (length (now s) < 16777216) ⌝ }
     ensures { λ r. ⌜ (last .0 ≡ systemOf system .last → (fi : Bool) → r ≡ readOf system (structures system fi n 22 (now (s .entry)))) ⌝ }
 {
-    let mut k = 0;
-    let mut at = 0;
-    let mut numbers = 4;
+    let run = sound_structures(system, last, n, s);
+    let mut k = run.count;
+    let mut at = run.at;
+    let mut numbers = run.numbers;
     while k < n {
         let fault = structure_fault(system, last, crate::HEAD + at, &s[at..]);
         if fault != 0 {
@@ -198,5 +265,10 @@ pub fn judge(system: u64, last: Line, e: &[u8]) -> ElementRead
     if fault < crate::HEAD {
         return refusal(19, fault as u64);
     }
-    judge_structures(system, last, two(e, 20), &e[crate::HEAD..])
+    let n = two(e, 20);
+    // Called from two places, it is compiled as a function of its own. Within this one its loop would have to share the registers.
+    if system == 3 {
+        return judge_structures(system, last, n, &e[crate::HEAD..]);
+    }
+    judge_structures(system, last, n, &e[crate::HEAD..])
 }

@@ -127,6 +127,11 @@ fn written(system: u64, fi: bool, j: ElementRead, e: &[u8], sheet: &mut [u16]) -
     if 65535 < n - 4 - 2 * packets || sheet.len() < n {
         return refusal(17, 0);
     }
+    // From two places, for the same reason as `judging::judge` calls twice.
+    if system == 3 {
+        write_sections(system, fi, packets, &e[crate::HEAD..], &mut sheet[..n]);
+        return j;
+    }
     write_sections(system, fi, packets, &e[crate::HEAD..], &mut sheet[..n]);
     j
 }

@@ -33,25 +33,46 @@ two-requires : tie.Need-two-requires
 two-requires c κs = let l = long c .0 in omega arith
 
 sub-judge-structures : tie.Need-sub-judge-structures
-sub-judge-structures c = let l = long (c .before) .0 in omega arith
+sub-judge-structures c = let l = long (c .before .before) .0 in omega arith
 
 part-judge-structures-start : tie.Need-part-judge-structures-start
-part-judge-structures-start c = let l = long (c .before) .0 in omega arith
+part-judge-structures-start c = let l = long (c .before .before) .0 in omega arith
 
 part-judge-structures-end : tie.Need-part-judge-structures-end
 part-judge-structures-end c = search needs
 
 judge-structures-requires : tie.Need-judge-structures-requires
 judge-structures-requires c κs =
-    let l = long (c .before .before) .1 in
-    let n = c .before .two .ensures .1 in
+    let l = long (c .before .before .before) .1 in
+    let n = c .before .before .two .ensures .1 in
     (omega arith, search needs)
 
 returns-2 : tie.Need-returns-2
 returns-2 c d fi =
-    let n = c .before .before in
+    let n = c .before .before .before in
     from-structures _ fi _ _ (n .before .before .head-fault .ensures .1) (right (n .before)) _ (n .two .ensures .0) _
     (c .judge-structures .ensures d fi)
+
+sub-judge-structures-2 : tie.Need-sub-judge-structures-2
+sub-judge-structures-2 c = let l = long (c .before .before) .0 in omega arith
+
+part-judge-structures-start-2 : tie.Need-part-judge-structures-start-2
+part-judge-structures-start-2 c = let l = long (c .before .before) .0 in omega arith
+
+part-judge-structures-end-2 : tie.Need-part-judge-structures-end-2
+part-judge-structures-end-2 c = search needs
+
+judge-structures-requires-2 : tie.Need-judge-structures-requires-2
+judge-structures-requires-2 c κs =
+    let l = long (c .before .before .before) .1 in
+    let n = c .before .before .two .ensures .1 in
+    (omega arith, search needs)
+
+returns-3 : tie.Need-returns-3
+returns-3 c d fi =
+    let n = c .before .before .before in
+    from-structures _ fi _ _ (n .before .before .head-fault .ensures .1) (right (n .before)) _ (n .two .ensures .0) _
+    (c .judge-structures2 .ensures d fi)
 
 pub judge-spec : {M : Type 1} → statement M
 judge-spec =
@@ -65,4 +86,9 @@ judge-spec =
     part-judge-structures-start
     part-judge-structures-end
     judge-structures-requires
-    returns-2)
+    returns-2
+    sub-judge-structures-2
+    part-judge-structures-start-2
+    part-judge-structures-end-2
+    judge-structures-requires-2
+    returns-3)

@@ -1,27 +1,19 @@
--- `mxf::judging::judge_structures` meets its contract. What the structures from here on give, with the packets and sheet numbers so far, is
--- what all of them give. A structure has more bytes than its packet has sheet numbers, so no sum wraps. The measure is how many structures
--- are left. Assumes nothing.
+-- `mxf::judging::judge_structures` meets its contract. The loop's invariant is `Begun`, as `sound_structures` gives it. The measure is how many
+-- structures are left. Assumes nothing.
 use Prim.Native.Nat.{ℕ, _+_, _-_, _≤_}
-use mathlib.Core.Path.{_≡_, _∙_}
-use mathlib.Core.Bool.{Bool}
+use mathlib.Core.Path.{_∙_}
 use mathlib.Core.List.{List}
 use native.Mathlib.Omega.{arith}
 use lib.ListN.{length, take, drop}
 use borrow.Author.Needs.{needs}
-use Rattle.rules.specs.Systems.{system as systemOf}
-use Rattle.mxf.specs.Judging.{twoIn, fourIn, structures}
-use Rattle.mxf.specs.Reading.{readOf}
-use Rattle.mxf.specs.Parts.{Whole}
-use Rattle.mxf.proofs.JudgingLaws.{wholeFrom, at-first, at-surplus, at-end, all-there, samples-there, at-fault, at-next}
+use Rattle.mxf.specs.Judging.{twoIn, fourIn}
+use Rattle.mxf.specs.Parts.{Whole, Begun}
+use Rattle.mxf.proofs.JudgingLaws.{at-surplus, at-end, all-there, samples-there, at-fault, at-next}
 use Rattle.mxf.proofs.judging.judge_structures.Statement.{statement}
 use Rattle.mxf.proofs.judging.judge_structures.Tie as tie
 
 abbrev Inv-loop : tie.InvT-loop
-Inv-loop system last n s k₀ at₀ numbers₀ k at numbers =
-    (k ≤ n)
-    × (at ≤ length s)
-    × (numbers ≤ 4 + at)
-    × (last .0 ≡ systemOf system .last → (fi : Bool) → wholeFrom system fi n k at numbers s ≡ readOf system (structures system fi n 22 s))
+Inv-loop system last n s k₀ at₀ numbers₀ k at numbers = Begun system (last .0) n s k at numbers
 
 abbrev μ-loop : tie.MeasureT-loop
 μ-loop system last n s k₀ at₀ numbers₀ k at numbers = n - k
@@ -29,7 +21,7 @@ abbrev μ-loop : tie.MeasureT-loop
 -- a structure that passed its tests
 module _ (c : tie.Else1 Inv-loop μ-loop) where
   abbrev s : List ℕ
-  s = c .before .before .before .before .before .before .args .s .now
+  s = c .before .before .before .before .before .before .before .args .s .now
 
   abbrev at : ℕ
   at = c .before .before .before .before .loop .at
@@ -38,15 +30,16 @@ module _ (c : tie.Else1 Inv-loop μ-loop) where
   passed = c .before .structure-fault .ensures .1 (c .if1 .left)
 
   there : at + (14 + fourIn s (at + 6)) ≤ length s
-  there = all-there at s passed (c .before .before .before .before .loop .inv .1)
+  there = all-there at s passed (c .before .before .before .before .loop .inv .inside)
 
   samples : twoIn s (at + 4) ≤ fourIn s (at + 6)
   samples = samples-there at s passed
 
 loop-holds : tie.Need-loop-holds Inv-loop μ-loop
-loop-holds c =
-    let a = c .before .args in
-    (search needs, search needs, search needs, λ e fi. at-first (a .system) fi (a .n) (a .s .now))
+loop-holds c = c .sound-structures .ensures
+
+sound-structures-requires : tie.Need-sound-structures-requires Inv-loop μ-loop
+sound-structures-requires c κs = search needs
 
 add-structure-fault : tie.Need-add-structure-fault Inv-loop μ-loop
 add-structure-fault c = search needs
@@ -70,12 +63,12 @@ returns : tie.Need-returns Inv-loop μ-loop
 returns c =
     let f = c .before .before in
     let l = f .before .before .before .loop in
-    let a = f .before .before .before .before .before .args in
+    let a = f .before .before .before .before .before .before .args in
     λ e fi.
     c .refusal .ensures
     ∙ at-fault (a .system) fi (a .n) (l .k) (l .at) (l .numbers) (a .s .now) (f .before .before .loop-test .taken) _
     (f .structure-fault .ensures .0 e) (c .before .if1 .taken)
-    ∙ l .inv .3 e fi
+    ∙ l .inv .same e fi
 
 add-two : tie.Need-add-two Inv-loop μ-loop
 add-two c = search needs
@@ -119,19 +112,21 @@ loop-again c =
     let b : tie.Else1 Inv-loop μ-loop = c .before .before in
     let f = b .before in
     let l = f .before .before .before .loop in
-    let a = f .before .before .before .before .before .args in
+    let a = f .before .before .before .before .before .before .args in
     let d = c .before .two .ensures .0 in
     let g = c .four .ensures .0 in
     let m = there b in
-    let o = samples b in (
-      omega arith,
-      omega arith,
-      omega arith,
-      λ e fi.
+    let o = samples b in
+    let i = l .inv in
+    record {
+      few = omega arith;
+      inside = omega arith;
+      short = omega arith;
+      same = λ e fi.
           at-next (a .system) fi (a .n) (l .k) (l .at) (l .numbers) (a .s .now) (f .before .before .loop-test .taken) _
           (f .structure-fault .ensures .0 e) (b .if1 .left) (passed b) _ _ d g
-          ∙ l .inv .3 e fi,
-    )
+          ∙ i .same e fi;
+    }
 
 add-refusal : tie.Need-add-refusal Inv-loop μ-loop
 add-refusal c = search needs
@@ -142,19 +137,19 @@ refusal-requires-2 c κs = search needs
 returns-2 : tie.Need-returns-2 Inv-loop μ-loop
 returns-2 c =
     let l = c .before .before .before .loop in
-    let a = c .before .before .before .before .before .args in
+    let a = c .before .before .before .before .before .before .args in
     λ e fi.
     c .refusal2 .ensures
     ∙ at-surplus (a .system) fi (a .n) (l .k) (l .at) (l .numbers) (a .s .now) (omega arith) (omega arith)
-    ∙ l .inv .3 e fi
+    ∙ l .inv .same e fi
 
 returns-3 : tie.Need-returns-3 Inv-loop μ-loop
 returns-3 c =
     let l = c .before .before .loop in
-    let a = c .before .before .before .before .args in
+    let a = c .before .before .before .before .before .args in
     λ e fi.
     at-end (a .system) fi (a .n) (l .k) (l .at) (l .numbers) (a .s .now) (omega arith) (omega arith)
-    ∙ l .inv .3 e fi
+    ∙ l .inv .same e fi
 
 pub judge-structures-spec : {M : Type 1} → statement M
 judge-structures-spec =
@@ -162,6 +157,7 @@ judge-structures-spec =
     (tie.spec
     Inv-loop
     μ-loop
+    sound-structures-requires
     loop-holds
     add-structure-fault
     sub-structure-fault
