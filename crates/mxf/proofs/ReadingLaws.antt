@@ -28,6 +28,7 @@ use Rattle.rules.proofs.Words.{packet-words, words-room}
 use Rattle.sheet.specs.Standing.{inFront}
 use Rattle.sheet.specs.Write.{hasRoom, listIn, framed, wordsAfter}
 use Rattle.sheet.proofs.Laws.{count-at}
+use Rattle.sheet.proofs.WriteLaws.{words-after}
 use Rattle.sheet.proofs.Filling.{two-more, part-long, part-more, all-written, threeOf, backOf}
 use Rattle.sheet.proofs.Filling.{sheet-before, sheet-lent, sheet-long, sheet-filled}
 use Rattle.mxf.specs.Served.{fiRead}
@@ -118,11 +119,6 @@ packet-framed sys fi t n e h =
     let b : take n (drop 14 t) ≡ body (packetIn sys fi t) =
     ap₂ take (sym e ∙ add-three d) a ∙ ap (λ (m : ℕ). getD t 14 0 ∷ getD t 15 0 ∷ m ∷ take d (drop 17 t)) (sym l) in
     ap (λ (r : List ℕ). 0x000 ∷ 0x3FF ∷ 0x3FF ∷ (map word r ++ check (map word r) ∷ [])) (sym b)
-
--- the buffer is as long as the words are
-words-after : (s buffer : List ℕ) → length buffer ≡ length s + 4 → wordsAfter s buffer ≡ framed (map word s)
-unfolding wordsAfter
-words-after s buffer h = rw (eq-eqb (length buffer) (length s + 4) h)
 
 -- ---- locations
 

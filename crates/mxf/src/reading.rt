@@ -67,6 +67,7 @@ fn write_packets(n: usize, s: &[u8], out: &mut [u16])
     ensures { λ _. ⌜ ((t : Shown n (now (s .entry)) (now (out .entry)))
         → now (out .exit) ≡ allWords (packetsOfStructures (t .sys) (t .fi) n (now (s .entry)))) ⌝ }
 {
+    let table = packet::words();
     let mut at = 0;
     let mut o = 0;
     let mut k = 0;
@@ -74,7 +75,7 @@ fn write_packets(n: usize, s: &[u8], out: &mut [u16])
         let samples = two(s, at + 4);
         let from = at + crate::FIELDS;
         let next = o + samples + 4;
-        sheet::write_words(&s[from..from + samples], &mut out[o..next]);
+        sheet::write_words(&table, &s[from..from + samples], &mut out[o..next]);
         o = next;
         at = from + four(s, at + 6);
         k += 1;

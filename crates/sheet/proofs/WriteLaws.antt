@@ -1,20 +1,20 @@
 -- The packets that a string shows, as the writing of a sheet goes through them.
 --
 -- In order: what is laid is shown: `shown-string`; a string from its front; counting, as `measure` goes; whole packets, and how many
--- words they have; from one packet to the next.
+-- words they have; from one packet to the next; the words of one packet.
 -- Assumes nothing.
 use Prim.Native.Nat.{ℕ, zero, suc, _+_, _-_, _≤_, _<_}
 use mathlib.Core.Path.{_≡_, refl, sym, ap, _∙_, subst}
 use mathlib.Core.Bool.{Bool, true, false, cond, _||_}
-use mathlib.Core.List.{List, [], _∷_, _++_, append-nil}
+use mathlib.Core.List.{List, [], _∷_, _++_, map, append-nil}
 use native.Mathlib.Omega.{arith}
 use lib.Dec.{eqb, ltb, leb}
 use lib.ListN.{length, getD, take, drop, length-append, length-drop, drop-of-length-le}
 use lib.Seq.{length-take-le, getD-take, getD-drop, drop-drop}
-use borrow.Author.Tests.{ltb-true, ltb-false, leb-true, leb-false, eqb-true, eqb-false, lt-ltb, le-ltb, lt-leb, le-leb}
+use borrow.Author.Tests.{ltb-true, ltb-false, leb-true, leb-false, eqb-true, eqb-false, lt-ltb, le-ltb, lt-leb, le-leb, eq-eqb}
 use Rattle.rules.specs.Base.{All}
 use Rattle.rules.specs.Systems.{System}
-use Rattle.rules.specs.Packet.{Packet, words}
+use Rattle.rules.specs.Packet.{Packet, word, words}
 use Rattle.rules.specs.Danc.{Item, Good, packetsOf, danc, string, header}
 use Rattle.rules.specs.Sheet.{allWords}
 use Rattle.rules.specs.Numbers.{Outcome, listed, refused, also, packetsIn}
@@ -23,7 +23,7 @@ use Rattle.rules.proofs.Basics.{never}
 use Rattle.rules.proofs.Rows.{Anything, row-read, row-enough}
 use Rattle.rules.proofs.Words.{packet-words}
 use Rattle.rules.proofs.Strings.{danc-length, bytes-packet, bytes-rest}
-use Rattle.sheet.specs.Write.{sizeIn, shownFault, shownRow, shown, listIn, packetsShown, Whole, countFrom, countTo}
+use Rattle.sheet.specs.Write.{sizeIn, shownFault, shownRow, shown, framed, wordsAfter, listIn, packetsShown, Whole, countFrom, countTo}
 
 -- ---- what is laid is shown
 
@@ -298,3 +298,10 @@ pass s at dc w h e =
 -- the last packet is passed
 pub passed-all : (s : List ℕ) (at : ℕ) → length s ≤ at → packetsShown (drop at s) ≡ []
 passed-all s at h = ap listIn (shown-none (drop at s) (ap length (drop-of-length-le s h)))
+
+-- ---- the words of one packet
+
+-- the buffer is as long as they are
+pub words-after : (s buffer : List ℕ) → length buffer ≡ length s + 4 → wordsAfter s buffer ≡ framed (map word s)
+unfolding wordsAfter
+words-after s buffer h = rw (eq-eqb (length buffer) (length s + 4) h)

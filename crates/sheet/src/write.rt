@@ -5,7 +5,7 @@ use frame::wide;
 ghost use mathlib.Core.Path.{_≡_};
 ghost use mathlib.Core.Bool.{cond};
 ghost use mathlib.Core.List.{List, _++_, map};
-ghost use Prim.Native.Nat.{ℕ, _-_, _*_, _%_, _≤_, _<_, min};
+ghost use Prim.Native.Nat.{ℕ, _+_, _-_, _*_, _%_, _≤_, _<_, min};
 ghost use lib.Dec.{eqb};
 ghost use lib.ListN.{length, take, drop};
 ghost use Rattle.rules.specs.Packet.{word, sum9};
@@ -22,6 +22,9 @@ const NO_PACKET: usize = 9354;
 
 // Packets of fewer bytes than so many, on the average, are written by the table.
 const SHORT: usize = 16;
+
+// The words of fewer bytes than so many, of one packet, are looked up; those of more are faster in vectors.
+const FEW: usize = 32;
 
 // What `measure` answers where the bytes are not whole packets: no count of packets in 9,360 bytes.
 const NOT_WHOLE: usize = 65536;
@@ -112,10 +115,15 @@ fn write_flag_and_cs(out: &mut [u16])
 
 // The words of one packet from its bytes, DID to the last user byte (004, 7.2: a reader makes flag, parity and CS anew). Nothing is
 // written where `out` is not as long as they are.
-pub fn write_words(bytes: &[u8], out: &mut [u16])
+pub fn write_words(table: &[u16; 256], bytes: &[u8], out: &mut [u16])
+    requires { ⌜ now table ≡ wordTable ⌝ }
     ensures { λ _. ⌜ now (out .exit) ≡ wordsAfter (now (bytes .entry)) (now (out .entry)) ⌝ }
 {
     if out.len() < 4 || out.len() - 4 != bytes.len() {
+        return;
+    }
+    if bytes.len() < FEW {
+        write_few(table, bytes, out);
         return;
     }
     write_coded(bytes, &mut out[3..3 + bytes.len()]);
@@ -146,7 +154,7 @@ fn look_up(table: &[u16; 256], b: u8) -> u16
     table[wide(b)]
 }
 
-// The words of a packet's user bytes by the table, and the sum of these words for CS. Their bits 9 are summed too, which are multiples of 512.
+// The words of a packet's bytes by the table, and the sum of these words for CS. Their bits 9 are summed too, which are multiples of 512.
 fn write_looked_up(table: &[u16; 256], s: &[u8], out: &mut [u16]) -> u32
     requires { ⌜ now table ≡ wordTable ⌝ }
     requires { ⌜ (length (now s) ≤ 255) × (length (now out) ≡ length (now s)) ⌝ }
@@ -162,6 +170,20 @@ fn write_looked_up(table: &[u16; 256], s: &[u8], out: &mut [u16]) -> u32
         i += 1;
     }
     sum
+}
+
+// The words of one packet by the table, from its bytes, DID to the last user byte: few, so that it takes less than `write_coded` and a sum.
+fn write_few(table: &[u16; 256], bytes: &[u8], out: &mut [u16])
+    requires { ⌜ now table ≡ wordTable ⌝ }
+    requires { ⌜ (length (now bytes) ≤ 255) × (length (now out) ≡ length (now bytes) + 4) ⌝ }
+    ensures { λ _. ⌜ now (out .exit) ≡ framed (map word (now (bytes .entry))) ⌝ }
+{
+    let end = bytes.len() + 3;
+    out[0] = 0x000;
+    out[1] = 0x3FF;
+    out[2] = 0x3FF;
+    let sum = write_looked_up(table, bytes, &mut out[3..end]);
+    out[end] = packet::check_sum(sum);
 }
 
 // "000h, 3FFh, 3FFh; DID; SDID or DBN; DC", without a loop, and the sum of the three words for CS.

@@ -11,7 +11,7 @@ use native.Mathlib.Numerals.{add-one, add-three, add-seven}
 use lib.Dec.{leb}
 use lib.ListN.{length, getD, take, drop, set, length-append, length-drop, length-set, length-map, take-append-drop}
 use lib.Seq.{length-take-le, getD-take, getD-drop, drop-cons, drop-drop, take-add, take-at, drop-at, take-all, take-take, take-suc-set}
-use borrow.Author.Tests.{lt-leb, le-leb, eq-eqb, ne-eqb}
+use borrow.Author.Tests.{lt-leb, le-leb, ne-eqb}
 use Rattle.rules.specs.Packet.{Packet, body, ones, parity, word, sum9, check, coded, checkOf, words}
 use Rattle.rules.specs.Sheet.{locations, allWords, sheetOf}
 use Rattle.rules.specs.Numbers.{Outcome, listed, refused}
@@ -25,8 +25,8 @@ use Rattle.packet.proofs.Faults.{heads}
 use Rattle.sheet.specs.Write.{sizeIn, shown, hasRoom, wroteOf, wrote, afterOf, sheetAfter, framed, wordsAfter, listIn, packetsShown, Whole}
 use Rattle.sheet.specs.Write.{headOf, idSum, Measured, countFrom}
 use Rattle.sheet.proofs.Filling.{one-more, two-more, part-long, part-behind, part-front, part-more, all-written}
-use Rattle.sheet.proofs.Filling.{threeOf, backOf, three-tail, back-set, sheet-before, sheet-lent, sheet-long, sheet-filled}
-use Rattle.sheet.proofs.WriteLaws.{size-at, words-long, whole-long, words-short, pass, passed-all}
+use Rattle.sheet.proofs.Filling.{threeOf, backOf, three-tail, back-long, back-set, sheet-before, sheet-lent, sheet-long, sheet-filled}
+use Rattle.sheet.proofs.WriteLaws.{words-after, size-at, words-long, whole-long, words-short, pass, passed-all}
 
 -- ---- bytes as words
 
@@ -287,14 +287,13 @@ module _ (s out ys : List ℕ) (h : length out ≡ length s + 4) (hy : ys ≡ ma
   between-long = part-long out ys 3 (3 + length s) (omega arith) (omega arith) between-part
 
   pub one-packet : (r : List ℕ) → r ≡ framed (take (length between - 4) (drop 3 between)) → r ≡ wordsAfter s out
-  unfolding wordsAfter
   one-packet r e =
       let n : length between - 4 ≡ length ys = let k = between-long in let l = between-part in omega arith in
       let a : drop 3 between ≡ ys ++ drop (3 + length s - 3) (drop 3 out) =
       drop-at (take 3 out) (ys ++ drop (3 + length s - 3) (drop 3 out)) 3 (length-take-le 3 out (omega arith)) in
       let b : take (length between - 4) (drop 3 between) ≡ ys =
       ap₂ take n a ∙ take-at ys (drop (3 + length s - 3) (drop 3 out)) (length ys) refl in
-      rw (eq-eqb (length out) (length s + 4) h) (e ∙ ap framed (b ∙ hy))
+      e ∙ ap framed (b ∙ hy) ∙ sym (words-after s out h)
 
 -- ---- the words of one packet, by the table
 
@@ -328,6 +327,26 @@ three-more : (a b c x y : ℕ) → x % 512 ≡ y % 512 → (a + b + c + x) % 512
 three-more a b c x y e =
     let n : a + b + c + x ≡ a + (b + (c + x)) = omega arith in
     rw n (nine-more a (b + (c + x)) (b % 512 + (c % 512 + y)) (nine-more b (c + x) (c % 512 + y) (nine-more c x y e)))
+
+-- from DID on: the flag, the words lent and come back, and then CS
+module _ (s out ys : List ℕ) (h : length out ≡ length s + 4) (hy : ys ≡ map word s) where
+  abbrev behind-flag : List ℕ
+  behind-flag = backOf (threeOf out 0x000 0x3FF 0x3FF) ys (length s + 3)
+
+  few-count : length ys ≡ length s + 3 - 3
+  few-count = ap length hy ∙ length-map s word ∙ (omega arith)
+
+  pub few-long : length behind-flag ≡ length out
+  few-long = back-long out ys 0x000 0x3FF 0x3FF (length s + 3) 0 (omega arith) (omega arith) few-count
+
+  pub few-written : (sum cs : ℕ) → sum % 512 ≡ sum9 (map word s) % 512 → cs ≡ checkSum sum → set behind-flag (length s + 3) cs ≡ framed (map word s)
+  unfolding framed
+  few-written sum cs e g =
+      let l = few-long in
+      let n : length (set behind-flag (length s + 3) cs) ≡ length s + 3 + 1 = length-set behind-flag (length s + 3) cs ∙ (omega arith) in
+      sym (take-all (length s + 3 + 1) (set behind-flag (length s + 3) cs) (omega arith))
+      ∙ back-set out ys 0x000 0x3FF 0x3FF (length s + 3) cs (omega arith) (omega arith) few-count
+      ∙ ap₂ (λ (t : List ℕ) (w : ℕ). 0x000 ∷ 0x3FF ∷ 0x3FF ∷ (t ++ w ∷ [])) hy (g ∙ check-of-sum sum (map word s) e)
 
 -- the first six words stand in front of what was there
 module _ (s out hs : List ℕ) (h : 7 ≤ length s) (l : length out ≡ length s) (hh : hs ≡ headOf s ++ drop 6 out) where

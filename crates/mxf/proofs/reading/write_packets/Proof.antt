@@ -12,13 +12,13 @@ use Rattle.mxf.proofs.reading.write_packets.Statement.{statement}
 use Rattle.mxf.proofs.reading.write_packets.Tie as tie
 
 abbrev Inv-loop : tie.InvT-loop
-Inv-loop n s out₀ at₀ o₀ k₀ out at o k = (length out ≡ length out₀) × ((t : Shown n s out₀) → Wording (t .sys) (t .fi) n s out k at o)
+Inv-loop n s out₀ table at₀ o₀ k₀ out at o k = (length out ≡ length out₀) × ((t : Shown n s out₀) → Wording (t .sys) (t .fi) n s out k at o)
 
 abbrev μ-loop : tie.MeasureT-loop
-μ-loop n s out₀ at₀ o₀ k₀ out at o k = n - k
+μ-loop n s out₀ table at₀ o₀ k₀ out at o k = n - k
 
 abbrev start : tie.At-loop Inv-loop μ-loop → tie.Start Inv-loop μ-loop
-start d = d .before .before .before
+start d = d .before .before .before .before
 
 -- in a turn the structure at `at` is without fault, and there is room for its packet
 step : (c : tie.In-loop Inv-loop μ-loop)
@@ -36,9 +36,12 @@ room c =
     wording-room (b .pre .sys) (b .pre .fi) (b .args .n) (b .args .s .now) (d .loop .out) (d .loop .k) (d .loop .at) (d .loop .o)
     (d .loop .inv .1 (b .pre)) (c .loop-test .taken)
 
+words-requires : tie.Need-words-requires Inv-loop μ-loop
+words-requires c κs = search needs
+
 loop-holds : tie.Need-loop-holds Inv-loop μ-loop
 loop-holds c =
-    let a = c .before .before .args in
+    let a = c .before .before .before .args in
     (refl, λ t. wording-none (t .sys) (t .fi) (a .n) (a .s .now) (a .out .now) (t .judged) (t .room))
 
 add-two : tie.Need-add-two Inv-loop μ-loop
@@ -57,45 +60,45 @@ add-next-2 : tie.Need-add-next-2 Inv-loop μ-loop
 add-next-2 c = let r = room (c .before) in let e = c .two .ensures .0 in omega arith
 
 add-write-words : tie.Need-add-write-words Inv-loop μ-loop
-add-write-words c = let h = step (c .before) .inside in omega arith
+add-write-words c = let h = step (c .before .before) .inside in omega arith
 
 sub-write-words : tie.Need-sub-write-words Inv-loop μ-loop
 sub-write-words c = search needs
 
 part-write-words-start : tie.Need-part-write-words-start Inv-loop μ-loop
-part-write-words-start c = let h = step (c .before) .inside in omega arith
+part-write-words-start c = let h = step (c .before .before) .inside in omega arith
 
 part-write-words-end : tie.Need-part-write-words-end Inv-loop μ-loop
 part-write-words-end c =
-    let h = step (c .before) .inside in
-    let m = step (c .before) .enough in
-    let e = c .two .ensures .0 in
+    let h = step (c .before .before) .inside in
+    let m = step (c .before .before) .enough in
+    let e = c .before .two .ensures .0 in
     omega arith
 
 mul-write-words : tie.Need-mul-write-words Inv-loop μ-loop
-mul-write-words c = let r = room (c .before .before) in omega arith
+mul-write-words c = let r = room (c .before .before .before) in omega arith
 
 sub-write-words-2 : tie.Need-sub-write-words-2 Inv-loop μ-loop
 sub-write-words-2 c = search needs
 
 part-write-words-start-2 : tie.Need-part-write-words-start-2 Inv-loop μ-loop
-part-write-words-start-2 c = let r = room (c .before .before) in omega arith
+part-write-words-start-2 c = let r = room (c .before .before .before) in omega arith
 
 part-write-words-end-2 : tie.Need-part-write-words-end-2 Inv-loop μ-loop
-part-write-words-end-2 c = let r = room (c .before .before) in let e = c .before .two .ensures .0 in omega arith
+part-write-words-end-2 c = let r = room (c .before .before .before) in let e = c .before .before .two .ensures .0 in omega arith
 
 write-words-requires : tie.Need-write-words-requires Inv-loop μ-loop
 write-words-requires c κs = search needs
 
 add-four : tie.Need-add-four Inv-loop μ-loop
-add-four c = let h = step (c .before .before .before .before .before .before) .inside in omega arith
+add-four c = let h = step (c .before .before .before .before .before .before .before) .inside in omega arith
 
 four-requires : tie.Need-four-requires Inv-loop μ-loop
-four-requires c κs = let h = step (c .before .before .before .before .before .before) .inside in omega arith
+four-requires c κs = let h = step (c .before .before .before .before .before .before .before) .inside in omega arith
 
 add-at : tie.Need-add-at Inv-loop μ-loop
 add-at c =
-    let h = step (c .before .before .before .before .before .before .before) .inside in
+    let h = step (c .before .before .before .before .before .before .before .before) .inside in
     let e = c .four .ensures .0 in
     omega arith
 
@@ -108,17 +111,17 @@ loop-less c = search needs
 loop-again : tie.Need-loop-again Inv-loop μ-loop
 loop-again c =
     let w = c .before .before .before in
-    let t = w .before .before .before in
+    let t = w .before .before .before .before in
     let d = t .before .before in
     let b = start d in
     let a = b .args in (
       wording-long (b .pre .sys) (b .pre .fi) (a .n) (a .s .now) (d .loop .out) (d .loop .k) (d .loop .at) (d .loop .o) (d .loop .inv .1 (b .pre))
           (t .before .loop-test .taken) (t .two .result) (c .four .result) (t .two .ensures .0) (c .four .ensures .0)
-          (w .write-words .last .1 .0) (w .write-words .ensures)
+          (w .write-words .last .1 .1 .0) (w .write-words .ensures)
           ∙ d .loop .inv .0,
       λ x. wording-more (x .sys) (x .fi) (a .n) (a .s .now) (d .loop .out) (d .loop .k) (d .loop .at) (d .loop .o) (d .loop .inv .1 x)
           (t .before .loop-test .taken) (t .two .result) (c .four .result) (t .two .ensures .0) (c .four .ensures .0)
-          (w .write-words .last .1 .0) (w .write-words .ensures),
+          (w .write-words .last .1 .1 .0) (w .write-words .ensures),
     )
 
 same-length : tie.Need-same-length Inv-loop μ-loop
@@ -137,6 +140,7 @@ write-packets-spec =
     (tie.spec
     Inv-loop
     μ-loop
+    words-requires
     loop-holds
     add-two
     two-requires

@@ -1,11 +1,13 @@
--- `write::write_words` meets its contract: the words of the bytes are written between the flag and CS, or nothing. Assumes nothing.
+-- `write::write_words` meets its contract: the words of the bytes are written between the flag and CS, by the table or not, or
+-- nothing. Assumes nothing.
 use Prim.Native.Nat.{_+_, _-_}
-use mathlib.Core.Path.{_≡_}
+use mathlib.Core.Path.{_≡_, sym, _∙_}
 use mathlib.Core.Logic.{⊎-elim}
 use native.Mathlib.Omega.{arith}
 use lib.ListN.{length}
 use borrow.Author.Needs.{needs}
 use borrow.Author.Tests.{eqb-true, eqb-false, not-true, not-false}
+use Rattle.sheet.proofs.WriteLaws.{words-after}
 use Rattle.sheet.proofs.write.Written.{no-words, between-long, one-packet}
 use Rattle.sheet.proofs.write.write_words.Statement.{statement}
 use Rattle.sheet.proofs.write.write_words.Tie as tie
@@ -30,6 +32,21 @@ returns c =
     (λ w. eqb-false (length (a .out .now) - 4) (length (a .bytes .now)) (not-true _ (w .1 .taken)) (omega arith)) (c .if1 .came) in
     no-words (a .bytes .now) (a .out .now) n
 
+write-few-requires : tie.Need-write-few-requires
+write-few-requires c κs =
+    let d : tie.Else2 = c .before .before in
+    (d .before .before .before .before .pre, (omega arith, room d))
+
+same-length : tie.Need-same-length
+same-length c = search needs
+
+returns-2 : tie.Need-returns-2
+returns-2 c =
+    let w = c .before .before in
+    let d : tie.Else2 = w .before .before .before in
+    let a = d .before .before .before .before .args in
+    w .write-few .ensures ∙ sym (words-after (a .bytes .now) (a .out .now) (room d))
+
 add-write-coded : tie.Need-add-write-coded
 add-write-coded c = search needs
 
@@ -40,7 +57,7 @@ part-write-coded-start : tie.Need-part-write-coded-start
 part-write-coded-start c = search needs
 
 part-write-coded-end : tie.Need-part-write-coded-end
-part-write-coded-end c = let e = room c in omega arith
+part-write-coded-end c = let e = room (c .before) in omega arith
 
 write-coded-requires : tie.Need-write-coded-requires
 write-coded-requires c κs = search needs
@@ -48,20 +65,20 @@ write-coded-requires c κs = search needs
 write-flag-and-cs-requires : tie.Need-write-flag-and-cs-requires
 write-flag-and-cs-requires c κs =
     let w = c .before .before .before in
-    let d = w .before .before in
+    let d = w .before .before .before in
     let a = d .before .before .before .before .args in
     let l = between-long (a .bytes .now) (a .out .now) (w .write-coded .last .1 .0) (room d) (w .write-coded .ensures) in
     let e = room d in
     omega arith
 
-same-length : tie.Need-same-length
-same-length c = search needs
+same-length-2 : tie.Need-same-length-2
+same-length-2 c = search needs
 
-returns-2 : tie.Need-returns-2
-returns-2 c =
+returns-3 : tie.Need-returns-3
+returns-3 c =
     let f = c .before .before in
     let w = f .before .before .before .before in
-    let d = w .before .before in
+    let d = w .before .before .before in
     let a = d .before .before .before .before .args in
     one-packet (a .bytes .now) (a .out .now) (w .write-coded .last .1 .0) (room d) (w .write-coded .ensures)
     (f .write-flag-and-cs .last .0) (f .write-flag-and-cs .ensures)
@@ -72,11 +89,14 @@ write-words-spec =
     (tie.spec
     sub-if2
     returns
+    write-few-requires
+    same-length
+    returns-2
     add-write-coded
     sub-write-coded
     part-write-coded-start
     part-write-coded-end
     write-coded-requires
     write-flag-and-cs-requires
-    same-length
-    returns-2)
+    same-length-2
+    returns-3)
