@@ -56,8 +56,33 @@ CASES = [
     ("read-element", 2, 0, MOST, "sound"),
 ]
 # What is not within the bars yet, and what it has reached: it may not get worse than that. A case that comes within its bar leaves this list.
-HELD = {}
-HELD_MEANS = {"plain C": 0.60, "tuned C": 0.85}
+HELD = {
+    "lay 30 × 20, packing 2": 1.08,
+    "lay 28 × 255 + 97, packing 2": 1.07,
+    "lay 512 × 2, packing 1": 1.17,
+    "lay 512 × 2, packing 2": 1.19,
+    "lay 892 × 3, packing 2, system 2": 1.18,
+    "lay 1,275 × 0, packing 2, system 2": 1.18,
+    "read 30 × 20, packing 1": 1.12,
+    "read 30 × 20, packing 2": 1.03,
+    "read 23 × 255 + 160, packing 1": 1.04,
+    "read 512 × 2, packing 1": 1.20,
+    "read 512 × 2, packing 2": 1.07,
+    "read 892 × 3, packing 2, system 2": 1.10,
+    "read 1,275 × 0, packing 2, system 2": 1.14,
+    "read an empty area": 1.13,
+    "read 23 × 255 + 160, packing 1, damaged, refused early": 1.43,
+    "read 28 × 255 + 97, packing 2, damaged, refused early": 1.12,
+    "write element 30 × 20, system 2": 1.15,
+    "write element 28 × 255 + 97, system 2": 1.04,
+    "write element 900 × 3, system 2": 1.43,
+    "write element 1,275 × 0, system 2": 1.60,
+    "read element 30 × 20, system 2": 1.35,
+    "read element 28 × 255 + 97, system 2": 1.16,
+    "read element 900 × 3, system 2": 1.51,
+    "read element 1,275 × 0, system 2": 1.61,
+}
+HELD_MEANS = {"plain C": 0.89, "tuned C": 1.14}
 CALLS = 20
 
 
