@@ -182,6 +182,7 @@ module _ (sys : ℕ) (fi : Bool) (x : Padded) (r : List ℕ) (g : Held sys fi x)
         user = user-back i;
         line = line-back i;
         flags = flags-back i;
+        mark = sym (g .sound .mark) i;
       }
 
   structure-rest : drop (sizeIn s) s ≡ r
@@ -408,6 +409,7 @@ module _ (sys : ℕ) (fi : Bool) (s : List ℕ) (hs : Bytes s) (g : Structure sy
               user = take-bytes dc t (drop-bytes 17 s hs);
               line = a;
               flags = flags-in (eqb (getD s 3 0) 4);
+              mark = refl;
             };
         lined = g .lined;
         own = own-in (eqb (getD s 3 0) 4);

@@ -161,7 +161,7 @@ module _ (sys : ℕ) (fi : Bool) where
       one {x = bare (givenBack sys fi q)}
       (record {
         sound =
-            record { did = g .did; sdid = g .sdid; many = g .many; user = g .user; line = g .line; flags = omega arith };
+            record { did = g .did; sdid = g .sdid; many = g .many; user = g .user; line = g .line; flags = omega arith; mark = g .mark };
         lined = l;
         own = omega arith;
         padding = λ i. omega arith;

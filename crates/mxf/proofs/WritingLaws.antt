@@ -15,7 +15,7 @@ use lib.Seq.{sets, sets-eq, length-sets, drop-cons, drop-drop, take-at, take-all
 use borrow.Author.Tests.{le-leb, lt-leb, eq-eqb, ne-eqb}
 use Rattle.rules.specs.Base.{joined, All}
 use Rattle.rules.specs.Systems.{System, system}
-use Rattle.rules.specs.Packet.{Packet, body, word, words, coded, checkOf, Sound}
+use Rattle.rules.specs.Packet.{Packet, words, coded, checkOf, Sound}
 use Rattle.rules.specs.Danc.{bytesOf}
 use Rattle.rules.specs.Sheet.{limit, allWords, systemIn, locationsIn, wordsIn}
 use Rattle.rules.specs.Numbers.{Outcome, listed, refused, unless, andThen}
@@ -24,7 +24,7 @@ use Rattle.rules.specs.Lister.{testedIn, tested}
 use Rattle.rules.specs.Demands.{SheetOf, Tests}
 use Rattle.rules.specs.declared.Tested.{Tested}
 use Rattle.rules.proofs.Basics.{sets-front, sets-behind, rest-part}
-use Rattle.rules.proofs.Words.{low-word, map-low}
+use Rattle.rules.proofs.Words.{body-bytes, coded-length, coded-low}
 use Rattle.rules.proofs.Sheets.{system-back, sheet-read}
 use Rattle.sheet.proofs.Filling.{part-kept, part-front}
 use Rattle.sections.specs.Sections.{SectionsOf, Sections}
@@ -293,15 +293,6 @@ module _ (line w c n : ℕ) (out : List ℕ) {o1 o2 o3 o4 o5 o6 : List ℕ} (roo
 -- ---- the structures
 
 -- the words from DID to the last user word
-coded-length : (p : Packet) → length (coded p) ≡ length (p .user) + 3
-unfolding coded
-coded-length p = let l = length-map (body p) word in omega arith
-
-coded-low : (y : System) (p : Packet) → Sound y p → map low (coded p) ≡ body p
-unfolding coded
-coded-low y p g i =
-    low-word (p .did) (g .did) i ∷ low-word (p .sdid) (g .sdid) i ∷ low-word (length (p .user)) (g .many) i ∷ map-low (p .user) (g .user) i
-
 coded-there : (p : Packet) (r ws : List ℕ) (at n : ℕ) → drop at ws ≡ words p ++ r → n ≡ length (p .user) + 3 → take n (drop (at + 3) ws) ≡ coded p
 unfolding words
 coded-there p r ws at n e h =
@@ -316,7 +307,7 @@ structure-is : (sys : ℕ) (y : System) (p : Packet) → Sound y p → structure
 unfolding structure
 structure-is sys y p g =
     let n : samples p + 0 ≡ samples p = omega arith in
-    rw (n, coded-length p, coded-low y p g, append-nil (p .user))
+    rw (n, coded-length p, coded-low p (body-bytes y p g), append-nil (p .user))
 
 -- once the structures that are left are laid behind those that are, all are laid
 record StructuresLeft (sys : ℕ) (fi : Bool) (y : System) (ps : List Packet) (ls ws out : List ℕ) (k at o : ℕ) : Type 0 where

@@ -4,14 +4,14 @@ use Prim.Native.Nat.{ℕ}
 use mathlib.Core.Path.{_≡_}
 use mathlib.Core.Bool.{true}
 use mathlib.Core.List.{List, [], _∷_, _++_}
-use Rattle.rules.specs.Packet.{Packet}
+use Rattle.rules.specs.Packet.{sound, Packet}
 use Rattle.rules.specs.Numbers.{listed}
 use Rattle.mxf.specs.Element.{element, elementOf}
 use Rattle.mxf.specs.Judging.{judged}
 
 -- document 01's packet p: DID 45h, SDID 01h, user bytes 10h 80h
 abbrev pub cue : ℕ → ℕ → Packet
-cue line flags = record { did = 0x45; sdid = 0x01; user = 0x10 ∷ 0x80 ∷ []; line = line; flags = flags }
+cue line flags = record { did = 0x45; sdid = 0x01; user = 0x10 ∷ 0x80 ∷ []; line = line; flags = flags; mark = sound }
 
 -- table 6, and a length of one byte's worth
 abbrev pub begun : ℕ → List ℕ

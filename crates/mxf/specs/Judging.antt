@@ -9,7 +9,7 @@ use mathlib.Core.List.{List, [], _∷_}
 use lib.Dec.{eqb, ltb, leb}
 use lib.ListN.{length, getD, take, drop}
 use Rattle.rules.specs.Systems.{System, system, stands}
-use Rattle.rules.specs.Packet.{Packet}
+use Rattle.rules.specs.Packet.{sound, Packet}
 use Rattle.rules.specs.Numbers.{Outcome, listed, refused, also}
 use Rattle.mxf.specs.Element.{key, wrapping}
 use Rattle.mxf.specs.Served.{fiRead}
@@ -77,6 +77,7 @@ packetIn sys fi s =
       user = take (getD s 16 0) (drop 17 s);
       line = twoIn s 0;
       flags = fiRead sys fi + 2 * cond (eqb (getD s 3 0) 4) 1 0;
+      mark = sound;
     }
 
 -- ---- the structures

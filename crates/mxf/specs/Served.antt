@@ -29,7 +29,7 @@ fiRead sys fi = cond (progressive sys) (bit fi) 0
 -- "Writing then reading gives back words, line and YCF"
 abbrev pub givenBack : ℕ → Bool → Packet → Packet
 givenBack sys fi p =
-    record { did = p .did; sdid = p .sdid; user = p .user; line = p .line; flags = fiRead sys fi + 2 * (p .flags / 2) }
+    record { did = p .did; sdid = p .sdid; user = p .user; line = p .line; flags = fiRead sys fi + 2 * (p .flags / 2); mark = p .mark }
 
 abbrev pub allBack : ℕ → Bool → List Packet → List Packet
 allBack sys fi ps = map (givenBack sys fi) (served sys fi ps)

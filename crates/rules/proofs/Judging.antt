@@ -10,12 +10,12 @@ use native.Mathlib.Omega.{arith}
 use lib.Dec.{eqb, ltb}
 use lib.ListN.{length, getD, take, drop}
 use lib.Seq.{take-add, drop-drop, getD-drop}
-use Rattle.rules.specs.Packet.{check, coded, words}
+use Rattle.rules.specs.Packet.{check, words}
 use Rattle.rules.specs.Laying.{isWord, areWords, flagged, dcIn, wordsFault, wordRow, wordsBefore, wordAt, judged}
 use Rattle.rules.specs.Demands.{Judges}
 use Rattle.rules.specs.declared.Judged.{Judged}
 use Rattle.rules.proofs.Basics.{never}
-use Rattle.rules.proofs.Words.{low-word, words-append, fault-back, words-uncut}
+use Rattle.rules.proofs.Words.{low-word, words-append, coded-back, fault-back, words-uncut}
 
 -- ---- the words before the first wrong one
 
@@ -57,11 +57,11 @@ eight s e =
 
 -- it follows from its first field
 pub judges : (s : List ℕ) (r : Judged) → r ≡ judged s → Judges s r
-unfolding judged wordAt wordRow words coded
+unfolding judged wordAt wordRow words
 judges s r e =
     record {
       answer = e;
-      passes = λ y p rest g q. e ∙ ap judged q ∙ rw (fault-back y p rest g, low-word (p .did) (g .did));
+      passes = λ y p rest g q. e ∙ ap judged q ∙ rw (fault-back y p rest g, coded-back y p rest g, low-word (p .did) (g .did));
       only = λ n y. let w = words-uncut y s tt (sym (ap (λ (x : Judged). x .number) e) ∙ n) in (w .0, wordRow .rest s, w .3, w .2);
       wrong = λ n.
           let q : wordsFault s ≡ 8 = sym (ap (λ (x : Judged). x .number) e) ∙ n in

@@ -16,7 +16,7 @@ use lib.ListN.{length, replicate, length-append, length-map, length-replicate}
 use borrow.Author.Tests.{eqb-true, leb-true, lt-ltb}
 use Rattle.rules.specs.Base.{allIs, sum, All, none, one, Bytes}
 use Rattle.rules.specs.Systems.{System, hd1080-60i, hd1080-50i, hd720-60p, known, system}
-use Rattle.rules.specs.Packet.{Packet}
+use Rattle.rules.specs.Packet.{sound, Packet}
 use Rattle.rules.specs.Danc.{Item, Good, written, packetsOf, string, stringBytes}
 use Rattle.rules.specs.Sheet.{limit, sheetOf}
 use Rattle.rules.specs.Blocks.{blockStart, shift, width, runs, blockSizes, areaSize, userBytesIn, scatter}
@@ -319,7 +319,7 @@ five-user area l =
     )
   where
     cue : List ℕ → Item
-    cue user = written (record { did = 0x61; sdid = 0x01; user = user; line = 0; flags = 0 })
+    cue user = written (record { did = 0x61; sdid = 0x01; user = user; line = 0; flags = 0; mark = sound })
 
     cues : List Item
     cues = cue (0 ∷ []) ∷ replicate 1274 (cue [])
@@ -332,7 +332,7 @@ five-user area l =
     good user m b =
         record {
           sound =
-              record { did = omega arith; sdid = omega arith; many = m; user = b; line = allowed-none (system 2); flags = omega arith };
+              record { did = omega arith; sdid = omega arith; many = m; user = b; line = allowed-none (system 2); flags = omega arith; mark = refl };
           bits = omega arith;
           third = omega arith;
           junk = omega arith;

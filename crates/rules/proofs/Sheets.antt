@@ -171,8 +171,8 @@ module _ (y : System) where
     pub sound : All (Sound y) (located ls qs)
 
   placed : (q : Packet) (l f : ℕ) → Sound y q → allowed y l ≡ true → f < 4
-      → Sound y (record { did = q .did; sdid = q .sdid; user = q .user; line = l; flags = f })
-  placed q l f g h k = record { did = g .did; sdid = g .sdid; user = g .user; many = g .many; line = h; flags = k }
+      → Sound y (record { did = q .did; sdid = q .sdid; user = q .user; line = l; flags = f; mark = q .mark })
+  placed q l f g h k = record { did = g .did; sdid = g .sdid; user = g .user; many = g .many; line = h; flags = k; mark = g .mark }
 
   locate : (i : ℕ) (ls : List ℕ) (qs : List Packet) (o u : Outcome) (ps : List Packet) → length ls ≡ 2 * length qs → All (Sound y) qs
       → unlessAt 6 (locationStands y) i ls o ≡ listed ps → unlessAt 20 (locationAllowed y) i ls u ≡ listed ps → Located ls qs
@@ -334,11 +334,11 @@ unfolding words coded checkOf
 packet-small y p g zero = omega arith
 packet-small y p g (suc zero) = omega arith
 packet-small y p g (suc (suc zero)) = omega arith
-packet-small y p g (suc (suc (suc zero))) = let w = word-small (p .did) (g .did) in omega arith
-packet-small y p g (suc (suc (suc (suc zero)))) = let w = word-small (p .sdid) (g .sdid) in omega arith
-packet-small y p g (suc (suc (suc (suc (suc zero))))) = let w = word-small (length (p .user)) (g .many) in omega arith
+packet-small y p g (suc (suc (suc zero))) = rw (g .mark) (let w = word-small (p .did) (g .did) in omega arith)
+packet-small y p g (suc (suc (suc (suc zero)))) = rw (g .mark) (let w = word-small (p .sdid) (g .sdid) in omega arith)
+packet-small y p g (suc (suc (suc (suc (suc zero))))) = rw (g .mark) (let w = word-small (length (p .user)) (g .many) in omega arith)
 packet-small y p g (suc (suc (suc (suc (suc (suc i)))))) =
-    append-below 65536 (map word (p .user)) (check (map word (body p)) ∷ []) (user-small (p .user) (g .user)) only i
+    rw (g .mark) (append-below 65536 (map word (p .user)) (check (map word (body p)) ∷ []) (user-small (p .user) (g .user)) only i)
   where
     only : Sixteen (check (map word (body p)) ∷ [])
     only zero = let w = check-small (map word (body p)) in omega arith

@@ -115,6 +115,7 @@ module _ (y : System) (hm : y .last < 2047) (x : Item) (r : List ℕ) (g : Good 
         user = user-back i;
         line = line-back y (x .junk) (p .line) (x .bits) (p .flags) (g .junk) on-line hm (g .bits) (g .sound .flags) (eqb (p .line) 0) refl i;
         flags = flags-back y (x .junk) (p .line) (x .bits) (p .flags) (g .junk) on-line hm (g .bits) (g .sound .flags) (eqb (p .line) 0) i;
+        mark = sym (g .sound .mark) i;
       }
 
   check-back : getD s (length (p .user) + 6) 0 ≡ checkOf p % 256
@@ -250,6 +251,7 @@ module _ (y : System) (a b c d e n : ℕ) (t : List ℕ) (f : ℕ) (hf : f < 256
                 user = take-bytes n t (λ i. hs (suc (suc (suc (suc (suc (suc i)))))));
                 line = w .2;
                 flags = flags-in y a b c (hs 0) (hs 1) (w .1);
+                mark = refl;
               };
           bits = omega arith;
           third = hs 2;

@@ -14,7 +14,7 @@ use lib.Seq.{length-take-le, split-at, getD-drop, getD-at, take-at, drop-at}
 use borrow.Author.Tests.{ltb-false, eqb-true, le-ltb, eq-eqb}
 use Rattle.rules.specs.Base.{Bytes, All, none, one}
 use Rattle.rules.specs.Systems.{System}
-use Rattle.rules.specs.Packet.{Packet, body, ones, parity, word, check, coded, checkOf, words, Sound}
+use Rattle.rules.specs.Packet.{Mark, sound, found, Packet, body, ones, parity, word, check, raised, codedAs, coded, checkOf, words, Sound}
 use Rattle.rules.specs.Danc.{bytesOf, stringBytes}
 use Rattle.rules.specs.Sheet.{allWords}
 use Rattle.rules.specs.Numbers.{listed, refused, packetsIn}
@@ -69,14 +69,59 @@ low-bytes (w ∷ ws) (suc i) = low-bytes ws i
 
 -- a packet without its location
 abbrev pub bare : Packet → Packet
-bare p = record { did = p .did; sdid = p .sdid; user = p .user; line = 0; flags = 0 }
+bare p = record { did = p .did; sdid = p .sdid; user = p .user; line = 0; flags = 0; mark = p .mark }
+
+-- DID to the last user word are as many words as bytes, whatever the mark
+raised-length : (us bs : List ℕ) → length (raised us bs) ≡ length bs
+raised-length us [] = refl
+raised-length us (b ∷ bs) = ap suc (raised-length (drop 1 us) bs)
+
+pub coded-length : (p : Packet) → length (coded p) ≡ length (p .user) + 3
+unfolding coded
+coded-length p = go (p .mark)
+  where
+    go : (m : Mark) → length (codedAs m (body p)) ≡ length (p .user) + 3
+    go sound = let k = length-map (body p) word in omega arith
+    go (found us cs) = let k = raised-length us (body p) in omega arith
 
 -- "as many bytes as its VANC packet has words, DC + 7"
 pub packet-words : (p : Packet) → length (words p) ≡ bytesOf p
+unfolding words
+packet-words p = let k = length-append (coded p) (checkOf p ∷ []) in let l = coded-length p in omega arith
+
+raised-low : (us bs : List ℕ) → Bytes bs → map low (raised us bs) ≡ bs
+raised-low us [] h = refl
+raised-low us (b ∷ bs) h =
+    let e : (b + 256 * getD us 0 0) % 256 ≡ b = let k = h 0 in omega arith in
+    ap₂ (λ (x : ℕ) (t : List ℕ). x ∷ t) e (raised-low (drop 1 us) bs (λ i. h (suc i)))
+
+pub body-bytes : (y : System) (p : Packet) → Sound y p → Bytes (body p)
+body-bytes y p g zero = g .did
+body-bytes y p g (suc zero) = g .sdid
+body-bytes y p g (suc (suc zero)) = g .many
+body-bytes y p g (suc (suc (suc i))) = g .user i
+
+-- the low bytes of a packet's words are its bytes, whatever the mark
+pub coded-low : (p : Packet) → Bytes (body p) → map low (coded p) ≡ body p
+unfolding coded
+coded-low p h = go (p .mark)
+  where
+    go : (m : Mark) → map low (codedAs m (body p)) ≡ body p
+    go sound = map-low (body p) h
+    go (found us cs) = raised-low us (body p) h
+
+-- "DC's low byte still gives the length", whatever the mark
+pub dc-low : (p : Packet) (r : List ℕ) → length (p .user) < 256 → dcIn (words p ++ r) ≡ length (p .user)
 unfolding words coded
-packet-words p =
-    let k : length (map word (p .user) ++ (checkOf p ∷ [])) ≡ length (p .user) + 1 = simp (length-append, length-map) in
-    omega arith
+dc-low p r h = go (p .mark)
+  where
+    go : (m : Mark) → low (getD ((codedAs m (body p) ++ (checkOf p ∷ [])) ++ r) 2 0) ≡ length (p .user)
+    go sound = low-word (length (p .user)) h
+    go (found us cs) = omega arith
+
+coded-sound : (p : Packet) → p .mark ≡ sound → coded p ≡ map word (body p)
+unfolding coded
+coded-sound p e = rw e
 
 -- a sound packet's words, and what follows
 module _ (y : System) (p : Packet) (r : List ℕ) (g : Sound y p) where
@@ -86,9 +131,11 @@ module _ (y : System) (p : Packet) (r : List ℕ) (g : Sound y p) where
   abbrev tail : List ℕ
   tail = (map word (p .user) ++ (checkOf p ∷ [])) ++ r
 
+  pub coded-back : coded p ≡ map word (body p)
+  coded-back = coded-sound p (g .mark)
+
   dc-back : dcIn s ≡ length (p .user)
-  unfolding words coded
-  dc-back = low-word (length (p .user)) (g .many)
+  dc-back = dc-low p r (g .many)
 
   user-back : take (length (p .user)) tail ≡ map word (p .user)
   user-back =
@@ -96,42 +143,45 @@ module _ (y : System) (p : Packet) (r : List ℕ) (g : Sound y p) where
       (take-at (map word (p .user)) ((checkOf p ∷ []) ++ r) (length (p .user)) (length-map (p .user) word))
 
   check-back : getD s (length (p .user) + 6) 0 ≡ checkOf p
-  unfolding words coded
+  unfolding words
   check-back =
-      let e : length (p .user) + 6 ≡ 6 + length (p .user) = omega arith in
+      let e : length (p .user) + 6 ≡ 3 + (length (p .user) + 3) = omega arith in
       ap (λ (n : ℕ). getD s n 0) e
-      ∙ sym (getD-drop 6 s (length (p .user)) 0)
-      ∙ ap (λ (t : List ℕ). getD t (length (p .user)) 0) (append-assoc (map word (p .user)) (checkOf p ∷ []) r)
-      ∙ getD-at (map word (p .user)) (checkOf p) r 0 (length (p .user)) (length-map (p .user) word)
+      ∙ sym (getD-drop 3 s (length (p .user) + 3) 0)
+      ∙ ap (λ (t : List ℕ). getD t (length (p .user) + 3) 0) (append-assoc (coded p) (checkOf p ∷ []) r)
+      ∙ getD-at (coded p) (checkOf p) r 0 (length (p .user) + 3) (coded-length p)
 
   sum-back : check (take (length (p .user) + 3) (drop 3 s)) ≡ checkOf p
-  unfolding words coded checkOf
-  sum-back = rw (add-three (length (p .user)), user-back)
+  unfolding words checkOf
+  sum-back =
+      rw (append-assoc (coded p) (checkOf p ∷ []) r, take-at (coded p) ((checkOf p ∷ []) ++ r) (length (p .user) + 3) (coded-length p), g .mark)
 
   length-back : length s ≡ length (p .user) + 7 + length r
   length-back = let k = packet-words p in let l = length-append (words p) r in omega arith
 
   pub fault-back : wordRow .fault s ≡ 0
-  unfolding wordRow wordsFault words coded
+  unfolding wordRow wordsFault words
   fault-back =
       let k = length-back in
       rw (
         le-ltb (length s) 7 (omega arith),
-        is-word (p .did) (g .did),
-        is-word (p .sdid) (g .sdid),
-        is-word (length (p .user)) (g .many),
         dc-back,
         le-ltb (length s) (length (p .user) + 7) (omega arith),
-        user-back,
-        are-words (p .user) (g .user),
         check-back,
         sum-back,
         eq-eqb (checkOf p) (checkOf p) refl,
+        coded-back,
+        is-word (p .did) (g .did),
+        is-word (p .sdid) (g .sdid),
+        is-word (length (p .user)) (g .many),
+        user-back,
+        are-words (p .user) (g .user),
       )
 
   packet-back : wordRow .packet s ≡ bare p
-  unfolding wordRow words coded
-  packet-back = rw (dc-back, user-back, map-low (p .user) (g .user), low-word (p .did) (g .did), low-word (p .sdid) (g .sdid))
+  unfolding wordRow words
+  packet-back =
+      rw (dc-back, coded-back, user-back, map-low (p .user) (g .user), low-word (p .did) (g .did), low-word (p .sdid) (g .sdid), g .mark)
 
   rest-back : wordRow .rest s ≡ r
   unfolding wordRow
@@ -200,6 +250,7 @@ module _ (x y z a b n : ℕ) (t : List ℕ) where
           user = low-bytes (take (low n) t);
           line = allowed-none sys;
           flags = omega arith;
+          mark = refl;
         },
       )
     where
@@ -256,7 +307,7 @@ bare-words [] = refl
 bare-words (p ∷ ps) = ap (λ (t : List ℕ). words p ++ t) (bare-words ps)
 
 bare-one : (y : System) (p : Packet) → Sound y p → Sound y (bare p)
-bare-one y p g = record { did = g .did; sdid = g .sdid; many = g .many; user = g .user; line = allowed-none y; flags = omega arith }
+bare-one y p g = record { did = g .did; sdid = g .sdid; many = g .many; user = g .user; line = allowed-none y; flags = omega arith; mark = g .mark }
 
 bare-sound : (y : System) (ps : List Packet) → All (Sound y) ps → All (Sound y) (bares ps)
 bare-sound y [] g = none

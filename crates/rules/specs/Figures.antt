@@ -7,7 +7,7 @@ use mathlib.Core.List.{List, [], _∷_, _++_}
 use lib.Dec.{eqb}
 use lib.ListN.{set, take, drop}
 use Rattle.rules.specs.Systems.{System, system, allowed}
-use Rattle.rules.specs.Packet.{Packet, words}
+use Rattle.rules.specs.Packet.{Packet, sound, words}
 use Rattle.rules.specs.Danc.{written, header, danc}
 use Rattle.rules.specs.Blocks.{blockSizes, areaSize}
 use Rattle.rules.specs.Packing1.{flat, packs, packsOf}
@@ -35,7 +35,7 @@ agree (l ∷ ls) = same (l .given) (l .stated) && agree ls
 
 -- "DID 45h, SDID 01h", these user bytes, line and flags
 abbrev pub packet : List ℕ → ℕ → ℕ → Packet
-packet user at flags = record { did = 0x45; sdid = 0x01; user = user; line = at; flags = flags }
+packet user at flags = record { did = 0x45; sdid = 0x01; user = user; line = at; flags = flags; mark = sound }
 
 abbrev pub p : Packet
 p = packet (0x10 ∷ 0x80 ∷ []) 9 0
@@ -76,7 +76,7 @@ refusedLine s = tested s .number ∷ tested s .place ∷ tested s .word ∷ []
 unfoldable pub faults : List Line
 faults =
     line (judgedLine (words p)) (0 ∷ 0 ∷ 2 ∷ [])
-    ∷ line (judgedLine (words (record { did = 0x80; sdid = 0x01; user = []; line = 9; flags = 0 }))) (0 ∷ 0 ∷ 1 ∷ [])
+    ∷ line (judgedLine (words (record { did = 0x80; sdid = 0x01; user = []; line = 9; flags = 0; mark = sound }))) (0 ∷ 0 ∷ 1 ∷ [])
     ∷ line (judgedLine (set (words p) 1 0x3FE)) (7 ∷ 1 ∷ 0 ∷ [])
     ∷ line (judgedLine []) (7 ∷ 0 ∷ 0 ∷ [])
     ∷ line (judgedLine (take 5 (words p))) (7 ∷ 5 ∷ 0 ∷ [])

@@ -9,7 +9,7 @@ use mathlib.Core.List.{List, [], _∷_, map}
 use lib.Dec.{eqb, ltb, leb}
 use lib.ListN.{length, getD, take, drop}
 use Rattle.rules.specs.Systems.{System, known, system, stands, allowed}
-use Rattle.rules.specs.Packet.{Packet, word, check}
+use Rattle.rules.specs.Packet.{Packet, sound, word, check}
 use Rattle.rules.specs.Danc.{stringBytes}
 use Rattle.rules.specs.Sheet.{limit, systemIn, countIn, locationsIn, wordCountIn, wordsIn}
 use Rattle.rules.specs.Blocks.{runs, blockSizes, areaSize, scatter}
@@ -38,20 +38,23 @@ low w = w % 256
 abbrev pub dcIn : List ℕ → ℕ
 dcIn s = low (getD s 5 0)
 
--- "Then packet by packet: 7; 8 on DID, SDID and DC; 9; 8 on the user words; 10."
-unfoldable pub wordsFault : List ℕ → ℕ
-wordsFault s =
+-- "Then packet by packet: 7; 8 on DID, SDID and DC; 9; 8 on the user words", then what is said of CS. `right` is what 8 asks of words
+abbrev pub faultBy : (List ℕ → Bool) → ℕ → List ℕ → ℕ
+faultBy right last s =
     cond (ltb (length s) 7 || not (flagged s)) 7
-    (cond (not (areWords (take 3 (drop 3 s)))) 8
+    (cond (not (right (take 3 (drop 3 s)))) 8
     (cond (ltb (length s) (dcIn s + 7)) 9
-    (cond (not (areWords (take (dcIn s) (drop 6 s)))) 8
-    (cond (not (eqb (getD s (dcIn s + 6) 0) (check (take (dcIn s + 3) (drop 3 s))))) 10
-    0))))
+    (cond (not (right (take (dcIn s) (drop 6 s)))) 8
+    last)))
+
+-- "10"
+unfoldable pub wordsFault : List ℕ → ℕ
+wordsFault s = faultBy areWords (cond (not (eqb (getD s (dcIn s + 6) 0) (check (take (dcIn s + 3) (drop 3 s))))) 10 0) s
 
 -- the packet at the front of words; its location is given elsewhere
 abbrev pub packetOfWords : List ℕ → Packet
 packetOfWords s =
-    record { did = low (getD s 3 0); sdid = low (getD s 4 0); user = map low (take (dcIn s) (drop 6 s)); line = 0; flags = 0 }
+    record { did = low (getD s 3 0); sdid = low (getD s 4 0); user = map low (take (dcIn s) (drop 6 s)); line = 0; flags = 0; mark = sound }
 
 abbrev pub noWords : List ℕ → Bool
 noWords [] = true
@@ -143,16 +146,20 @@ located [] ps = []
 located (line ∷ []) ps = []
 located (line ∷ flags ∷ ls) [] = []
 located (line ∷ flags ∷ ls) (p ∷ ps) =
-    record { did = p .did; sdid = p .sdid; user = p .user; line = line; flags = flags } ∷ located ls ps
+    record { did = p .did; sdid = p .sdid; user = p .user; line = line; flags = flags; mark = p .mark } ∷ located ls ps
 
--- 5, 6, "after 6 on all locations" 20, then packet by packet 7 to 10, then "11 | packets and locations differ in number"
-unfoldable pub listTests : System → List ℕ → Outcome
-listTests y s =
+-- 5, 6, "after 6 on all locations" 20, then the packets of the words, then "11 | packets and locations differ in number"
+abbrev pub listTestsBy : (List ℕ → Outcome) → System → List ℕ → Outcome
+listTestsBy packets y s =
     unless 5 (leb (countIn s) limit)
     (unlessAt 6 (locationStands y) 0 (locationsIn s)
     (unlessAt 20 (locationAllowed y) 0 (locationsIn s)
-    (andThen (packetsOfWords (wordsIn s))
+    (andThen (packets (wordsIn s))
     (λ (ps : List Packet). unless 11 (eqb (length ps) (countIn s)) (listed (located (locationsIn s) ps))))))
+
+-- packet by packet 7 to 10
+unfoldable pub listTests : System → List ℕ → Outcome
+listTests y s = listTestsBy packetsOfWords y s
 
 -- "the tests 2, 3, 5 to 11", 20 among them
 unfoldable pub sheetTests : List ℕ → Outcome

@@ -12,6 +12,7 @@
 --   Packings   what the two have in common: user bytes, room, packs laid
 --   Numbers    "Numbers given back": a list or a refusal, and the reading of packet after packet
 --   Laying     the tests of a sheet, and what laying gives back
+--   Found      packets as found: the tests of their sheet (document 02, A13)
 --   Reading    the tests of an area, and what reading gives back
 --   Walker     "The walker"
 --   Lister     the lister of "Worked figures"
@@ -28,6 +29,7 @@ pub mod Packing2
 pub mod Packings
 pub mod Numbers
 pub mod Laying
+pub mod Found
 pub mod Reading
 pub mod Walker
 pub mod Lister

@@ -9,7 +9,7 @@ use lib.Dec.{eqb, ltb, leb}
 use lib.ListN.{length, getD, take, drop}
 use Rattle.rules.specs.Base.{allIs}
 use Rattle.rules.specs.Systems.{System, known, system, stands, allowed}
-use Rattle.rules.specs.Packet.{Packet, checkOf}
+use Rattle.rules.specs.Packet.{Packet, sound, checkOf}
 use Rattle.rules.specs.Sheet.{limit, sheetOf}
 use Rattle.rules.specs.Blocks.{areaSize, blockSizes, userBytesIn}
 use Rattle.rules.specs.Packing1.{Five, flat, fives, carriersFor}
@@ -39,6 +39,7 @@ packetOfBytes s =
       user = take (getD s 5 0) (drop 6 s);
       line = lineOf (getD s 0 0) (getD s 1 0);
       flags = flagsOf (getD s 1 0);
+      mark = sound;
     }
 
 -- "16 | LE is 1 and the line is 0 or past the last"

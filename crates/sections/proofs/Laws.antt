@@ -14,7 +14,7 @@ use lib.ListN.{length, getD, take, drop, set, length-append, length-drop, length
 use lib.Seq.{sets, set-set, set-comm, getD-drop, drop-cons, drop-drop, drop-at, take-all, take-nil}
 use Rattle.rules.specs.Base.{All, one}
 use Rattle.rules.specs.Systems.{System, system}
-use Rattle.rules.specs.Packet.{Packet, body, word, words, coded, checkOf, Sound}
+use Rattle.rules.specs.Packet.{Packet, words, coded, checkOf, Sound}
 use Rattle.rules.specs.Danc.{written, header, behind, danc, string, bytesOf}
 use Rattle.rules.specs.Sheet.{locations, allWords, countIn, locationsIn, wordsIn}
 use Rattle.rules.specs.Laying.{low}
@@ -23,7 +23,7 @@ use Rattle.rules.proofs.Basics.{rest-part}
 use Rattle.rules.proofs.Blocks.{facts-of}
 use Rattle.rules.proofs.Lines.{allowed-last}
 use Rattle.rules.proofs.Sheets.{locations-back, words-back}
-use Rattle.rules.proofs.Words.{low-word, packet-words, map-low}
+use Rattle.rules.proofs.Words.{body-bytes, coded-low, dc-low, packet-words}
 use Rattle.rules.proofs.Strings.{danc-length}
 use Rattle.danc.proofs.Laws.{header-written}
 use Rattle.sections.specs.Sections.{SectionsOf, Sections, LaysString}
@@ -80,19 +80,15 @@ module _ (ws : List ℕ) (at : ℕ) where
       omega arith
 
   pub dc-there : (p : Packet) (r : List ℕ) → length (p .user) < 256 → drop at ws ≡ words p ++ r → low (getD ws (at + 5) 0) ≡ length (p .user)
-  unfolding words coded
-  dc-there p r many e = ap low (sym (getD-drop at ws 5 0) ∙ ap (λ (t : List ℕ). getD t 5 0) e) ∙ low-word (length (p .user)) many
+  dc-there p r many e = ap low (sym (getD-drop at ws 5 0) ∙ ap (λ (t : List ℕ). getD t 5 0) e) ∙ dc-low p r many
 
 -- ---- what a sound packet's words give
 
 module _ (y : System) (p : Packet) (g : Sound y p) where
   -- the low bytes of the words behind the flag
   pub low-behind : map low (coded p ++ checkOf p ∷ []) ≡ behind p
-  unfolding coded
   low-behind =
-      map-append low (map word (body p)) (checkOf p ∷ [])
-      ∙ (λ i. low-word (p .did) (g .did) i ∷ low-word (p .sdid) (g .sdid) i ∷ low-word (length (p .user)) (g .many) i
-      ∷ map-low (p .user) (g .user) i ++ low (checkOf p) ∷ [])
+      map-append low (coded p) (checkOf p ∷ []) ∙ ap (λ (t : List ℕ). t ++ low (checkOf p) ∷ []) (coded-low p (body-bytes y p g))
 
 -- ---- the packets that are left
 
