@@ -19,7 +19,7 @@ use Rattle.rules.specs.Packet.{Packet, body, Sound}
 use Rattle.rules.specs.Numbers.{Outcome, listed, also}
 use Rattle.rules.proofs.Basics.{never, either, take-bytes, drop-bytes}
 use Rattle.rules.proofs.Lines.{allowed-stands, OnAllowed}
-use Rattle.mxf.specs.Element.{Padded, packetsOf, progressive, two, three, key, wrapping, coding, samples, structure, value, element}
+use Rattle.mxf.specs.Element.{eight, Padded, packetsOf, progressive, two, three, key, wrapping, coding, samples, structure, value, element}
 use Rattle.mxf.specs.Served.{fiRead}
 use Rattle.mxf.specs.Judging.{twoIn, threeIn, fourIn, inFrame, isCoding, isCount, sizeIn, frontThen, arrayThen, packetIn}
 use Rattle.mxf.specs.Judging.{structures, keyThen, headThen, judged}
@@ -72,7 +72,7 @@ zeroth (suc n) h f = absurd (f (omega arith))
 
 -- the packet and the padding that a structure shows
 abbrev paddedIn : ℕ → Bool → List ℕ → Padded
-paddedIn sys fi s = record { packet = packetIn sys fi s; padding = take (fourIn s 6 - twoIn s 4) (drop (twoIn s 4) (drop 14 s)) }
+paddedIn sys fi s = record { packet = packetIn eight sys fi s; padding = take (fourIn s 6 - twoIn s 4) (drop (twoIn s 4) (drop 14 s)) }
 
 pub structure-length : (sys : ℕ) (x : Padded) → length (structure sys x) ≡ 17 + length (x .packet .user) + length (x .padding)
 unfolding structure
@@ -122,19 +122,19 @@ module _ (sys : ℕ) (fi : Bool) (x : Padded) (r : List ℕ) (g : Held sys fi x)
   in-frame : inFrame (system sys) (p .line) ≡ true
   in-frame = rw (ne-eqb (p .line) 0 (g .lined), allowed-stands (system sys) (p .line) (g .sound .line))
 
-  is-coding : (t : Bool) → isCoding (cond t 4 5) ≡ true
+  is-coding : (t : Bool) → isCoding eight (cond t 4 5) ≡ true
   is-coding true = refl
   is-coding false = refl
 
-  front-read : (at : ℕ) (o : Outcome) → frontThen sys at s o ≡ o
+  front-read : (at : ℕ) (o : Outcome) → frontThen eight sys at s o ≡ o
   unfolding frontThen coding
   front-read at o =
       let l = long in
       right at s 0 2 _ _ (omega arith) (ap (inFrame (system sys)) line-back ∙ in-frame)
       ∙ right at s 2 1 _ _ (omega arith) (eq-eqb (getD s 2 0) (wrapping sys) wrapping-back)
-      ∙ right at s 3 1 _ _ (omega arith) (ap isCoding coding-back ∙ is-coding (eqb (p .flags / 2) 1))
+      ∙ right at s 3 1 _ _ (omega arith) (ap (isCoding eight) coding-back ∙ is-coding (eqb (p .flags / 2) 1))
 
-  array-read : (at : ℕ) (o : Outcome) → arrayThen at s o ≡ o
+  array-read : (at : ℕ) (o : Outcome) → arrayThen eight at s o ≡ o
   unfolding arrayThen
   array-read at o =
       let l = long in
@@ -142,7 +142,7 @@ module _ (sys : ℕ) (fi : Bool) (x : Padded) (r : List ℕ) (g : Held sys fi x)
       let a = array-back in
       let c = dc-back in
       let m = g .sound .many in
-      let count : isCount (twoIn s 4) ≡ true = rw (le-leb 3 (twoIn s 4) (omega arith), le-leb (twoIn s 4) 258 (omega arith)) in
+      let count : isCount eight (twoIn s 4) ≡ true = rw (le-leb 3 (twoIn s 4) (omega arith), le-leb (twoIn s 4) 258 (omega arith)) in
       let whole : (leb (twoIn s 4) (fourIn s 6) && leb (sizeIn s) (length s)) ≡ true =
       rw (le-leb (twoIn s 4) (fourIn s 6) (omega arith), le-leb (sizeIn s) (length s) (omega arith)) in
       right at s 4 2 _ _ (omega arith) count
@@ -173,7 +173,7 @@ module _ (sys : ℕ) (fi : Bool) (x : Padded) (r : List ℕ) (g : Held sys fi x)
   unfolding structure
   user-back = ap (take (length (p .user))) (append-assoc (p .user) (x .padding) r) ∙ take-append-seam (p .user) (x .padding ++ r)
 
-  structure-packet : packetIn sys fi s ≡ p
+  structure-packet : packetIn eight sys fi s ≡ p
   unfolding structure
   structure-packet =
       λ i. record {
@@ -210,7 +210,7 @@ paddedFrom sys fi (suc n) s = paddedIn sys fi s ∷ paddedFrom sys fi n (drop (s
 
 module _ (sys : ℕ) (fi : Bool) where
   structures-read : (xs : List Padded) (at : ℕ) → All (Held sys fi) xs → length (joined (structure sys) xs) < 16777216
-      → structures sys fi (length xs) at (joined (structure sys) xs) ≡ listed (packetsOf xs)
+      → structures eight sys fi (length xs) at (joined (structure sys) xs) ≡ listed (packetsOf xs)
   structures-read [] at none h = refl
   structures-read (x ∷ xs) at (one g gs) h =
       let r : List ℕ = joined (structure sys) xs in
@@ -221,7 +221,7 @@ module _ (sys : ℕ) (fi : Bool) where
       let later = structures-read xs (at + sizeIn s) gs (omega arith) in
       front-read sys fi x r g hl at _
       ∙ array-read sys fi x r g hl at _
-      ∙ ap₂ also (structure-packet sys fi x r g hl) (ap (structures sys fi (length xs) (at + sizeIn s)) (structure-rest sys fi x r g hl) ∙ later)
+      ∙ ap₂ also (structure-packet sys fi x r g hl) (ap (structures eight sys fi (length xs) (at + sizeIn s)) (structure-rest sys fi x r g hl) ∙ later)
 
   structures-padded : (xs : List Padded) → All (Held sys fi) xs → length (joined (structure sys) xs) < 16777216
       → paddedFrom sys fi (length xs) (joined (structure sys) xs) ≡ xs
@@ -305,7 +305,7 @@ module _ (sys : ℕ) (fi : Bool) (s : List ℕ) (hs : Bytes s) (g : Structure sy
   x = paddedIn sys fi s
 
   abbrev q : Packet
-  q = packetIn sys fi s
+  q = packetIn eight sys fi s
 
   abbrev t : List ℕ
   t = drop 17 s
@@ -434,17 +434,17 @@ record StructuresOf (sys : ℕ) (fi : Bool) (n : ℕ) (s : List ℕ) (ps : List 
   held : All (Held sys fi) items
   whole : s ≡ joined (structure sys) items
 
-structures-written : (sys : ℕ) (fi : Bool) (n at : ℕ) (s : List ℕ) (ps : List Packet) → Bytes s → structures sys fi n at s ≡ listed ps
+structures-written : (sys : ℕ) (fi : Bool) (n at : ℕ) (s : List ℕ) (ps : List Packet) → Bytes s → structures eight sys fi n at s ≡ listed ps
     → All (OnAllowed (system sys)) ps → StructuresOf sys fi n s ps
 structures-written sys fi zero at [] ps hs e fine = record { items = []; packets = cc; count = refl; held = none; whole = refl }
 structures-written sys fi zero at (b ∷ s) ps hs e fine = never (cc)
 structures-written sys fi (suc n) at s ps hs e fine =
     let m = structures-listed sys fi n at s ps e in
-    let w = first-rest (packetIn sys fi s) (m .rest) (subst (All (OnAllowed (system sys))) (m .front) fine) in
+    let w = first-rest (packetIn eight sys fi s) (m .rest) (subst (All (OnAllowed (system sys))) (m .front) fine) in
     let later = structures-written sys fi n (at + sizeIn s) (drop (sizeIn s) s) (m .rest) (drop-bytes (sizeIn s) s hs) (m .later) (w .1) in
     record {
       items = paddedIn sys fi s ∷ later .items;
-      packets = ap (λ (qs : List Packet). packetIn sys fi s ∷ qs) (later .packets) ∙ sym (m .front);
+      packets = ap (λ (qs : List Packet). packetIn eight sys fi s ∷ qs) (later .packets) ∙ sym (m .front);
       count = ap suc (later .count);
       held = one (structure-held sys fi s hs (m .structure) (w .0)) (later .held);
       whole = structure-whole sys fi s hs (m .structure) ∙ ap (λ (r : List ℕ). structure sys (paddedIn sys fi s) ++ r) (later .whole);
@@ -469,7 +469,7 @@ gives-judged sys fi xs e g =
     let short = g .short in
     ap (judged sys fi) (g .bytes)
     ∙ head-read sys xs _
-    ∙ ap₂ (λ (n : ℕ) (s : List ℕ). structures sys fi n 22 s) (count-back sys xs) (structures-back sys xs)
+    ∙ ap₂ (λ (n : ℕ) (s : List ℕ). structures eight sys fi n 22 s) (count-back sys xs) (structures-back sys xs)
     ∙ structures-read sys fi xs 22 (g .held) (omega arith)
 
 -- from one list with one padding

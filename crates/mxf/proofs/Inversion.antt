@@ -22,7 +22,7 @@ use Rattle.rules.specs.Systems.{system}
 use Rattle.rules.specs.Packet.{Packet}
 use Rattle.rules.specs.Numbers.{Outcome, listed, refused, also}
 use Rattle.rules.proofs.Basics.{never, both}
-use Rattle.mxf.specs.Element.{key, wrapping}
+use Rattle.mxf.specs.Element.{eight, key, wrapping}
 use Rattle.mxf.specs.Judging.{twoIn, threeIn, fourIn, field, inFrame, isCoding, isCount, sizeIn, frontThen, arrayThen, packetIn}
 use Rattle.mxf.specs.Judging.{structures, keyThen, headThen, judged}
 
@@ -48,10 +48,10 @@ field-listed at s i size right o ps e = go (ltb (length s) (i + size)) right ref
 pub record Front (sys : ℕ) (s : List ℕ) (o : Outcome) (ps : List Packet) : Type 0 where
   pub lined : twoIn s 0 ≡ 0 → ⊥
   pub wrapped : getD s 2 0 ≡ wrapping sys
-  pub coded : isCoding (getD s 3 0) ≡ true
+  pub coded : isCoding eight (getD s 3 0) ≡ true
   pub later : o ≡ listed ps
 
-pub front-listed : (sys at : ℕ) (s : List ℕ) (o : Outcome) (ps : List Packet) → frontThen sys at s o ≡ listed ps → Front sys s o ps
+pub front-listed : (sys at : ℕ) (s : List ℕ) (o : Outcome) (ps : List Packet) → frontThen eight sys at s o ≡ listed ps → Front sys s o ps
 unfolding frontThen
 front-listed sys at s o ps e =
     let a = field-listed at s 0 2 _ _ ps e in
@@ -74,7 +74,7 @@ pub record Array (s : List ℕ) (o : Outcome) (ps : List Packet) : Type 0 where
   pub dc : getD s 16 0 + 3 ≡ twoIn s 4
   pub later : o ≡ listed ps
 
-pub array-listed : (at : ℕ) (s : List ℕ) (o : Outcome) (ps : List Packet) → arrayThen at s o ≡ listed ps → Array s o ps
+pub array-listed : (at : ℕ) (s : List ℕ) (o : Outcome) (ps : List Packet) → arrayThen eight at s o ≡ listed ps → Array s o ps
 unfolding arrayThen
 array-listed at s o ps e =
     let a = field-listed at s 4 2 _ _ ps e in
@@ -98,7 +98,7 @@ array-listed at s o ps e =
 pub record Structure (sys : ℕ) (s : List ℕ) : Type 0 where
   pub lined : twoIn s 0 ≡ 0 → ⊥
   pub wrapped : getD s 2 0 ≡ wrapping sys
-  pub coded : isCoding (getD s 3 0) ≡ true
+  pub coded : isCoding eight (getD s 3 0) ≡ true
   pub least : 3 ≤ twoIn s 4
   pub most : twoIn s 4 ≤ 258
   pub enough : twoIn s 4 ≤ fourIn s 6
@@ -109,15 +109,15 @@ pub record Structure (sys : ℕ) (s : List ℕ) : Type 0 where
 pub record More (sys : ℕ) (fi : Bool) (n at : ℕ) (s : List ℕ) (ps : List Packet) : Type 0 where
   pub structure : Structure sys s
   pub rest : List Packet
-  pub front : ps ≡ packetIn sys fi s ∷ rest
-  pub later : structures sys fi n (at + sizeIn s) (drop (sizeIn s) s) ≡ listed rest
+  pub front : ps ≡ packetIn eight sys fi s ∷ rest
+  pub later : structures eight sys fi n (at + sizeIn s) (drop (sizeIn s) s) ≡ listed rest
 
-pub structures-listed : (sys : ℕ) (fi : Bool) (n at : ℕ) (s : List ℕ) (ps : List Packet) → structures sys fi (suc n) at s ≡ listed ps
+pub structures-listed : (sys : ℕ) (fi : Bool) (n at : ℕ) (s : List ℕ) (ps : List Packet) → structures eight sys fi (suc n) at s ≡ listed ps
     → More sys fi n at s ps
 structures-listed sys fi n at s ps e =
     let a = front-listed sys at s _ ps e in
     let b = array-listed at s _ ps (a .later) in
-    go (structures sys fi n (at + sizeIn s) (drop (sizeIn s) s)) refl (b .later)
+    go (structures eight sys fi n (at + sizeIn s) (drop (sizeIn s) s)) refl (b .later)
     (record {
       lined = a .lined;
       wrapped = a .wrapped;
@@ -130,17 +130,17 @@ structures-listed sys fi n at s ps e =
       dc = b .dc;
     })
   where
-    go : (o : Outcome) → structures sys fi n (at + sizeIn s) (drop (sizeIn s) s) ≡ o → also (packetIn sys fi s) o ≡ listed ps → Structure sys s
+    go : (o : Outcome) → structures eight sys fi n (at + sizeIn s) (drop (sizeIn s) s) ≡ o → also (packetIn eight sys fi s) o ≡ listed ps → Structure sys s
         → More sys fi n at s ps
-    go (listed qs) q e t = record { structure = t; rest = qs; front = (let z : packetIn sys fi s ∷ qs ≡ ps = cc in sym z); later = q }
+    go (listed qs) q e t = record { structure = t; rest = qs; front = (let z : packetIn eight sys fi s ∷ qs ≡ ps = cc in sym z); later = q }
     go (refused m i) q e t = never (cc)
 
-pub structures-none : (sys : ℕ) (fi : Bool) (at : ℕ) (s : List ℕ) (ps : List Packet) → structures sys fi zero at s ≡ listed ps
+pub structures-none : (sys : ℕ) (fi : Bool) (at : ℕ) (s : List ℕ) (ps : List Packet) → structures eight sys fi zero at s ≡ listed ps
     → (s ≡ []) × (ps ≡ [])
 structures-none sys fi at [] ps e = (refl, cc)
 structures-none sys fi at (b ∷ s) ps e = never (cc)
 
-pub structures-count : (sys : ℕ) (fi : Bool) (n at : ℕ) (s : List ℕ) (ps : List Packet) → structures sys fi n at s ≡ listed ps → length ps ≡ n
+pub structures-count : (sys : ℕ) (fi : Bool) (n at : ℕ) (s : List ℕ) (ps : List Packet) → structures eight sys fi n at s ≡ listed ps → length ps ≡ n
 structures-count sys fi zero at s ps e = ap length (structures-none sys fi at s ps e .1)
 structures-count sys fi (suc n) at s ps e =
     let m = structures-listed sys fi n at s ps e in
@@ -172,7 +172,7 @@ pub record Head (e : List ℕ) : Type 0 where
 
 pub record Element (sys : ℕ) (fi : Bool) (e : List ℕ) (ps : List Packet) : Type 0 where
   pub head : Head e
-  pub later : structures sys fi (twoIn e 20) 22 (drop 22 e) ≡ listed ps
+  pub later : structures eight sys fi (twoIn e 20) 22 (drop 22 e) ≡ listed ps
 
 pub judged-listed : (sys : ℕ) (fi : Bool) (e : List ℕ) (ps : List Packet) → judged sys fi e ≡ listed ps → Element sys fi e ps
 unfolding judged headThen key
@@ -214,19 +214,19 @@ also-number : (p : Packet) (o : Outcome) → Nineteen o → Nineteen (also p o)
 also-number p (listed ps) h = listed-number (p ∷ ps)
 also-number p (refused n i) h = h
 
-structures-number : (sys : ℕ) (fi : Bool) (n at : ℕ) (s : List ℕ) → Nineteen (structures sys fi n at s)
+structures-number : (sys : ℕ) (fi : Bool) (n at : ℕ) (s : List ℕ) → Nineteen (structures eight sys fi n at s)
 unfolding frontThen arrayThen
 structures-number sys fi zero at [] = listed-number []
 structures-number sys fi zero at (b ∷ s) = refused-number at
 structures-number sys fi (suc n) at s =
     field-number at s 0 2 (inFrame (system sys) (twoIn s 0)) _
     (field-number at s 2 1 (eqb (getD s 2 0) (wrapping sys)) _
-    (field-number at s 3 1 (isCoding (getD s 3 0)) _
-    (field-number at s 4 2 (isCount (twoIn s 4)) _
+    (field-number at s 3 1 (isCoding eight (getD s 3 0)) _
+    (field-number at s 4 2 (isCount eight (twoIn s 4)) _
     (field-number at s 6 4 (leb (twoIn s 4) (fourIn s 6) && leb (sizeIn s) (length s)) _
     (field-number at s 10 4 (eqb (fourIn s 10) 1) _
     (field-number at s 16 1 (eqb (getD s 16 0 + 3) (twoIn s 4)) _
-    (also-number (packetIn sys fi s) _ (structures-number sys fi n (at + sizeIn s) (drop (sizeIn s) s)))))))))
+    (also-number (packetIn eight sys fi s) _ (structures-number sys fi n (at + sizeIn s) (drop (sizeIn s) s)))))))))
 
 key-number : (i : ℕ) (ks e : List ℕ) (o : Outcome) → Nineteen o → Nineteen (keyThen i ks e o)
 key-number i [] e o h = h

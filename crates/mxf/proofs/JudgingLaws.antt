@@ -21,7 +21,7 @@ use Rattle.rules.specs.Sheet.{sheetOf}
 use Rattle.rules.specs.Numbers.{Outcome, listed, refused, also}
 use Rattle.rules.proofs.Basics.{second-false, rest-part}
 use Rattle.rules.proofs.Sheets.{sheet-length}
-use Rattle.mxf.specs.Element.{key, wrapping}
+use Rattle.mxf.specs.Element.{eight, key, wrapping}
 use Rattle.mxf.specs.Judging.{
   twoIn,
   threeIn,
@@ -149,19 +149,19 @@ module _ (e : List ℕ) (n : ℕ) (found : (o : Outcome) → keyThen 0 key e o �
 -- ---- a structure's front
 
 module _ (sys last at : ℕ) (s : List ℕ) (pos : 0 < at) (is : last ≡ system sys .last) (o : Outcome) where
-  pub line-missing : length s < 2 → frontThen sys at s o ≡ faultOr 0 (at + length s) o
+  pub line-missing : length s < 2 → frontThen eight sys at s o ≡ faultOr 0 (at + length s) o
   unfolding frontThen
   line-missing l = missing 0 at s 2 _ o (at + length s) refl (λ z. omega arith) l
 
   module _ (l2 : 2 ≤ length s) where
-    line-wrong : inFrame (system sys) (twoIn s 0) ≡ false → frontThen sys at s o ≡ faultOr 0 at o
+    line-wrong : inFrame (system sys) (twoIn s 0) ≡ false → frontThen eight sys at s o ≡ faultOr 0 at o
     unfolding frontThen
     line-wrong w = wrong 0 at s 0 2 _ _ o at (omega arith) (λ z. omega arith) l2 w
 
-    pub line-none : twoIn s 0 ≡ 0 → frontThen sys at s o ≡ faultOr 0 at o
+    pub line-none : twoIn s 0 ≡ 0 → frontThen eight sys at s o ≡ faultOr 0 at o
     line-none z = line-wrong (rw (eq-eqb (twoIn s 0) 0 z))
 
-    pub line-past : last < twoIn s 0 → frontThen sys at s o ≡ faultOr 0 at o
+    pub line-past : last < twoIn s 0 → frontThen eight sys at s o ≡ faultOr 0 at o
     unfolding stands
     line-past p =
         line-wrong (second-false (not (eqb (twoIn s 0) 0)) (stands (system sys) (twoIn s 0)) (rw (← is) (lt-leb (twoIn s 0) last p)))
@@ -171,38 +171,38 @@ module _ (sys last at : ℕ) (s : List ℕ) (pos : 0 < at) (is : last ≡ system
       unfolding stands
       in-frame = rw (ne-eqb (twoIn s 0) 0 some, ← is) (le-leb (twoIn s 0) last within)
 
-      from-wrapping : frontThen sys at s o ≡ field at s 2 1 (eqb (getD s 2 0) (wrapping sys)) (field at s 3 1 (isCoding (getD s 3 0)) o)
+      from-wrapping : frontThen eight sys at s o ≡ field at s 2 1 (eqb (getD s 2 0) (wrapping sys)) (field at s 3 1 (isCoding eight (getD s 3 0)) o)
       unfolding frontThen
       from-wrapping = right at s 0 2 _ _ l2 in-frame
 
-      pub wrapping-missing : length s < 3 → frontThen sys at s o ≡ faultOr 0 (at + length s) o
+      pub wrapping-missing : length s < 3 → frontThen eight sys at s o ≡ faultOr 0 (at + length s) o
       wrapping-missing l = from-wrapping ∙ missing 0 at s 3 _ o (at + length s) refl (λ z. omega arith) l
 
       module _ (l3 : 3 ≤ length s) (w : ℕ) (wraps : w ≡ wrapping sys) where
-        pub wrapping-wrong : (getD s 2 0 ≡ w → ⊥) → frontThen sys at s o ≡ faultOr 0 (at + 2) o
+        pub wrapping-wrong : (getD s 2 0 ≡ w → ⊥) → frontThen eight sys at s o ≡ faultOr 0 (at + 2) o
         wrapping-wrong h =
             from-wrapping
             ∙ wrong 0 at s 2 1 _ _ o (at + 2) refl (λ z. omega arith) l3 (ne-eqb (getD s 2 0) (wrapping sys) (λ z. h (z ∙ sym wraps)))
 
         module _ (wrapped : getD s 2 0 ≡ w) where
-          from-coding : frontThen sys at s o ≡ field at s 3 1 (isCoding (getD s 3 0)) o
+          from-coding : frontThen eight sys at s o ≡ field at s 3 1 (isCoding eight (getD s 3 0)) o
           from-coding = from-wrapping ∙ right at s 2 1 _ _ l3 (eq-eqb (getD s 2 0) (wrapping sys) (wrapped ∙ wraps))
 
-          pub coding-missing : length s < 4 → frontThen sys at s o ≡ faultOr 0 (at + length s) o
+          pub coding-missing : length s < 4 → frontThen eight sys at s o ≡ faultOr 0 (at + length s) o
           coding-missing l = from-coding ∙ missing 0 at s 4 _ o (at + length s) refl (λ z. omega arith) l
 
           module _ (l4 : 4 ≤ length s) where
-            pub coding-wrong : (getD s 3 0 ≡ 4 → ⊥) → (getD s 3 0 ≡ 5 → ⊥) → frontThen sys at s o ≡ faultOr 0 (at + 3) o
+            pub coding-wrong : (getD s 3 0 ≡ 4 → ⊥) → (getD s 3 0 ≡ 5 → ⊥) → frontThen eight sys at s o ≡ faultOr 0 (at + 3) o
             coding-wrong h k =
                 from-coding
-                ∙ wrong 0 at s 3 1 (isCoding (getD s 3 0)) o o (at + 3) refl (λ z. omega arith) l4
+                ∙ wrong 0 at s 3 1 (isCoding eight (getD s 3 0)) o o (at + 3) refl (λ z. omega arith) l4
                 (rw (ne-eqb (getD s 3 0) 4 h, ne-eqb (getD s 3 0) 5 k))
 
-            pub luma : getD s 3 0 ≡ 4 → frontThen sys at s o ≡ o
-            luma h = from-coding ∙ right at s 3 1 (isCoding (getD s 3 0)) o l4 (rw (eq-eqb (getD s 3 0) 4 h))
+            pub luma : getD s 3 0 ≡ 4 → frontThen eight sys at s o ≡ o
+            luma h = from-coding ∙ right at s 3 1 (isCoding eight (getD s 3 0)) o l4 (rw (eq-eqb (getD s 3 0) 4 h))
 
-            pub colour : getD s 3 0 ≡ 5 → frontThen sys at s o ≡ o
-            colour h = from-coding ∙ right at s 3 1 (isCoding (getD s 3 0)) o l4 (rw h)
+            pub colour : getD s 3 0 ≡ 5 → frontThen eight sys at s o ≡ o
+            colour h = from-coding ∙ right at s 3 1 (isCoding eight (getD s 3 0)) o l4 (rw h)
 
 -- ---- its array
 
@@ -216,58 +216,58 @@ module _ (at : ℕ) (s : List ℕ) (pos : 0 < at) (o : Outcome) where
   abbrev fromArray : Outcome
   fromArray = field at s 6 4 isArray fromElement
 
-  pub count-missing : length s < 6 → arrayThen at s o ≡ faultOr 0 (at + length s) o
+  pub count-missing : length s < 6 → arrayThen eight at s o ≡ faultOr 0 (at + length s) o
   unfolding arrayThen
   count-missing l = missing 0 at s 6 _ o (at + length s) refl (λ z. omega arith) l
 
   module _ (l6 : 6 ≤ length s) where
-    count-wrong : isCount (twoIn s 4) ≡ false → arrayThen at s o ≡ faultOr 0 (at + 4) o
+    count-wrong : isCount eight (twoIn s 4) ≡ false → arrayThen eight at s o ≡ faultOr 0 (at + 4) o
     unfolding arrayThen
     count-wrong w = wrong 0 at s 4 2 _ _ o (at + 4) refl (λ z. omega arith) l6 w
 
-    pub too-few : twoIn s 4 < 3 → arrayThen at s o ≡ faultOr 0 (at + 4) o
+    pub too-few : twoIn s 4 < 3 → arrayThen eight at s o ≡ faultOr 0 (at + 4) o
     too-few l = count-wrong (rw (lt-leb 3 (twoIn s 4) l))
 
-    pub too-many : 258 < twoIn s 4 → arrayThen at s o ≡ faultOr 0 (at + 4) o
+    pub too-many : 258 < twoIn s 4 → arrayThen eight at s o ≡ faultOr 0 (at + 4) o
     too-many l = count-wrong (second-false (leb 3 (twoIn s 4)) (leb (twoIn s 4) 258) (lt-leb (twoIn s 4) 258 l))
 
     module _ (least : 3 ≤ twoIn s 4) (most : twoIn s 4 ≤ 258) where
-      from-array : arrayThen at s o ≡ fromArray
+      from-array : arrayThen eight at s o ≡ fromArray
       unfolding arrayThen
-      from-array = right at s 4 2 (isCount (twoIn s 4)) fromArray l6 (rw (le-leb 3 (twoIn s 4) least) (le-leb (twoIn s 4) 258 most))
+      from-array = right at s 4 2 (isCount eight (twoIn s 4)) fromArray l6 (rw (le-leb 3 (twoIn s 4) least) (le-leb (twoIn s 4) 258 most))
 
-      pub array-missing : length s < 10 → arrayThen at s o ≡ faultOr 0 (at + length s) o
+      pub array-missing : length s < 10 → arrayThen eight at s o ≡ faultOr 0 (at + length s) o
       array-missing l = from-array ∙ missing 0 at s 10 _ o (at + length s) refl (λ z. omega arith) l
 
       module _ (l10 : 10 ≤ length s) where
-        pub array-small : fourIn s 6 < twoIn s 4 → arrayThen at s o ≡ faultOr 0 (at + 6) o
+        pub array-small : fourIn s 6 < twoIn s 4 → arrayThen eight at s o ≡ faultOr 0 (at + 6) o
         array-small l =
             from-array ∙ wrong 0 at s 6 4 isArray fromElement o (at + 6) refl (λ z. omega arith) l10 (rw (lt-leb (twoIn s 4) (fourIn s 6) l))
 
-        pub array-past : length s < sizeIn s → arrayThen at s o ≡ faultOr 0 (at + 6) o
+        pub array-past : length s < sizeIn s → arrayThen eight at s o ≡ faultOr 0 (at + 6) o
         array-past l =
             from-array
             ∙ wrong 0 at s 6 4 _ _ o (at + 6) refl (λ z. omega arith) l10
             (second-false (leb (twoIn s 4) (fourIn s 6)) (leb (sizeIn s) (length s)) (lt-leb (sizeIn s) (length s) l))
 
         module _ (room : twoIn s 4 ≤ fourIn s 6) (there : sizeIn s ≤ length s) where
-          from-element : arrayThen at s o ≡ fromElement
+          from-element : arrayThen eight at s o ≡ fromElement
           from-element =
               from-array ∙ right at s 6 4 isArray fromElement l10 (rw (le-leb (twoIn s 4) (fourIn s 6) room) (le-leb (sizeIn s) (length s) there))
 
-          pub element-wrong : (fourIn s 10 ≡ 1 → ⊥) → arrayThen at s o ≡ faultOr 0 (at + 10) o
+          pub element-wrong : (fourIn s 10 ≡ 1 → ⊥) → arrayThen eight at s o ≡ faultOr 0 (at + 10) o
           element-wrong h =
               from-element ∙ wrong 0 at s 10 4 _ _ o (at + 10) refl (λ z. omega arith) (omega arith) (ne-eqb (fourIn s 10) 1 h)
 
           module _ (single : fourIn s 10 ≡ 1) where
-            from-dc : arrayThen at s o ≡ field at s 16 1 (eqb (getD s 16 0 + 3) (twoIn s 4)) o
+            from-dc : arrayThen eight at s o ≡ field at s 16 1 (eqb (getD s 16 0 + 3) (twoIn s 4)) o
             from-dc = from-element ∙ right at s 10 4 _ _ (omega arith) (eq-eqb (fourIn s 10) 1 single)
 
-            pub dc-wrong : (getD s 16 0 + 3 ≡ twoIn s 4 → ⊥) → arrayThen at s o ≡ faultOr 0 (at + 16) o
+            pub dc-wrong : (getD s 16 0 + 3 ≡ twoIn s 4 → ⊥) → arrayThen eight at s o ≡ faultOr 0 (at + 16) o
             dc-wrong h =
                 from-dc ∙ wrong 0 at s 16 1 _ _ o (at + 16) refl (λ z. omega arith) (omega arith) (ne-eqb (getD s 16 0 + 3) (twoIn s 4) h)
 
-            pub array-right : getD s 16 0 + 3 ≡ twoIn s 4 → arrayThen at s o ≡ o
+            pub array-right : getD s 16 0 + 3 ≡ twoIn s 4 → arrayThen eight at s o ≡ o
             array-right h = from-dc ∙ right at s 16 1 _ _ (omega arith) (eq-eqb (getD s 16 0 + 3) (twoIn s 4) h)
 
 -- ---- one without a fault
@@ -279,7 +279,7 @@ passes sys last s is some within wrapped coded w most single at o =
     let a = w .there in
     let b = w .room in
     let d = w .dc in
-    let next : Outcome = arrayThen (22 + at) s o in
+    let next : Outcome = arrayThen eight (22 + at) s o in
     ⊎-elim
     (luma sys last (22 + at) s (omega arith) is next (omega arith) some within (omega arith) _ refl wrapped (omega arith))
     (colour sys last (22 + at) s (omega arith) is next (omega arith) some within (omega arith) _ refl wrapped (omega arith))
@@ -316,8 +316,8 @@ add-nothing sys (listed ps) =
     let b : 4 + (2 * length ps + stringBytes ps) ≡ length (sheetOf sys ps) = omega arith in
     λ i. counted (a i) (b i)
 
-pub at-first : (sys : ℕ) (fi : Bool) (n : ℕ) (s : List ℕ) → wholeFrom sys fi n 0 0 4 s ≡ readOf sys (structures sys fi n 22 s)
-at-first sys fi n s = rw (sub-zero n) (add-nothing sys (structures sys fi n 22 s))
+pub at-first : (sys : ℕ) (fi : Bool) (n : ℕ) (s : List ℕ) → wholeFrom sys fi n 0 0 4 s ≡ readOf sys (structures eight sys fi n 22 s)
+at-first sys fi n s = rw (sub-zero n) (add-nothing sys (structures eight sys fi n 22 s))
 
 add-also : (k numbers : ℕ) (p : Packet) (o : Outcome) → addTo k numbers (also p o) ≡ addTo (k + 1) (numbers + (2 + bytesOf p)) o
 add-also k numbers p (refused n i) = refl
@@ -358,7 +358,7 @@ module _ (at : ℕ) (s : List ℕ) (w : Whole (take (length s - at) (drop at s))
       omega arith
 
   -- its sheet numbers: the words, and a location
-  sheet-numbers : (sys : ℕ) (fi : Bool) → 2 + bytesOf (packetIn sys fi (drop at s)) ≡ twoIn s (at + 4) + 6
+  sheet-numbers : (sys : ℕ) (fi : Bool) → 2 + bytesOf (packetIn eight sys fi (drop at s)) ≡ twoIn s (at + 4) + 6
   sheet-numbers sys fi =
       let l = length-drop 17 (drop at s) in
       let h = whole .there in
@@ -371,15 +371,15 @@ module _ (at : ℕ) (s : List ℕ) (w : Whole (take (length s - at) (drop at s))
 -- the structure at a place, and the fault that its tests gave
 module _ (sys : ℕ) (fi : Bool) (n k at numbers : ℕ) (s : List ℕ) (h : k < n) (f : ℕ)
     (tested : (o : Outcome)
-    → frontThen sys (22 + at) (take (length s - at) (drop at s)) (arrayThen (22 + at) (take (length s - at) (drop at s)) o) ≡ faultOr 0 f o)
+    → frontThen eight sys (22 + at) (take (length s - at) (drop at s)) (arrayThen eight (22 + at) (take (length s - at) (drop at s)) o) ≡ faultOr 0 f o)
   where
     abbrev t : List ℕ
     t = drop at s
 
     abbrev later : Outcome
-    later = also (packetIn sys fi t) (structures sys fi (n - (k + 1)) (22 + at + sizeIn t) (drop (sizeIn t) t))
+    later = also (packetIn eight sys fi t) (structures eight sys fi (n - (k + 1)) (22 + at + sizeIn t) (drop (sizeIn t) t))
 
-    turn : structures sys fi (n - k) (22 + at) t ≡ faultOr 0 f later
+    turn : structures eight sys fi (n - k) (22 + at) t ≡ faultOr 0 f later
     turn =
         let e : n - k ≡ suc (n - (k + 1)) = omega arith in
         rw e (rw (rest-part at s) at (tested later))
@@ -390,31 +390,31 @@ module _ (sys : ℕ) (fi : Bool) (n k at numbers : ℕ) (s : List ℕ) (h : k < 
     pub at-next : f ≡ 0 → Whole (take (length s - at) (drop at s)) → (two four : ℕ) → two ≡ twoIn s (at + 4) → four ≡ fourIn s (at + 6)
         → wholeFrom sys fi n (k + 1) (at + (14 + four)) (numbers + (two + 6)) s ≡ wholeFrom sys fi n k at numbers s
     at-next z w two four d e =
-        let a : numbers + (2 + bytesOf (packetIn sys fi t)) ≡ numbers + (two + 6) =
+        let a : numbers + (2 + bytesOf (packetIn eight sys fi t)) ≡ numbers + (two + 6) =
         ap (λ (m : ℕ). numbers + m) (sheet-numbers at s w sys fi ∙ ap (λ (m : ℕ). m + 6) (sym d)) in
         let b : sizeIn t ≡ 14 + four = ap (λ (m : ℕ). 14 + m) (four-drop at 6 s ∙ sym e) in
         let p : 22 + at + sizeIn t ≡ 22 + (at + (14 + four)) = omega arith in
         let r : drop (sizeIn t) t ≡ drop (at + (14 + four)) s = drop-drop (sizeIn t) at s ∙ ap (λ (m : ℕ). drop (at + m) s) b in
         sym
         (ap (addTo k numbers) (turn ∙ no-fault 0 f later z)
-        ∙ add-also k numbers (packetIn sys fi t) (structures sys fi (n - (k + 1)) (22 + at + sizeIn t) (drop (sizeIn t) t))
-        ∙ (λ i. addTo (k + 1) (a i) (structures sys fi (n - (k + 1)) (p i) (r i))))
+        ∙ add-also k numbers (packetIn eight sys fi t) (structures eight sys fi (n - (k + 1)) (22 + at + sizeIn t) (drop (sizeIn t) t))
+        ∙ (λ i. addTo (k + 1) (a i) (structures eight sys fi (n - (k + 1)) (p i) (r i))))
 
 -- ---- the element
 
 -- the fault that the tests of its head gave
 module _ (sys : ℕ) (fi : Bool) (e : List ℕ) (f : ℕ) (tested : (o : Outcome) → headThen e o ≡ faultOr 22 f o) where
   abbrev behind : Outcome
-  behind = structures sys fi (twoIn e 20) 22 (drop 22 e)
+  behind = structures eight sys fi (twoIn e 20) 22 (drop 22 e)
 
   pub head-wrong : f < 22 → readOf 0 (refused 19 f) ≡ readOf sys (judged sys fi e)
   unfolding judged
   head-wrong l = ap (readOf sys) (fault 22 f behind (λ z. omega arith) ∙ sym (tested behind))
 
   pub from-structures : f ≡ 22 → (n : ℕ) → n ≡ twoIn e 20 → (r : ElementRead)
-      → r ≡ readOf sys (structures sys fi n 22 (take (length e - 22) (drop 22 e))) → r ≡ readOf sys (judged sys fi e)
+      → r ≡ readOf sys (structures eight sys fi n 22 (take (length e - 22) (drop 22 e))) → r ≡ readOf sys (judged sys fi e)
   unfolding judged
   from-structures z n d r g =
       g
-      ∙ (λ i. readOf sys (structures sys fi (d i) 22 (rest-part 22 e i)))
+      ∙ (λ i. readOf sys (structures eight sys fi (d i) 22 (rest-part 22 e i)))
       ∙ ap (readOf sys) (sym (tested behind ∙ no-fault 22 f behind z))

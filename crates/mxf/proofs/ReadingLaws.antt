@@ -32,6 +32,7 @@ use Rattle.sheet.proofs.WriteLaws.{words-after}
 use Rattle.sheet.proofs.Filling.{two-more, part-long, part-more, all-written, threeOf, backOf}
 use Rattle.sheet.proofs.Filling.{sheet-before, sheet-lent, sheet-long, sheet-filled}
 use Rattle.mxf.specs.Served.{fiRead}
+use Rattle.mxf.specs.Element.{eight}
 use Rattle.mxf.specs.Judging.{twoIn, fourIn, sizeIn, packetIn, structures, judged}
 use Rattle.mxf.specs.Reading.{lastTests, packetTests, reading, readOf, read, sheetAfter}
 use Rattle.mxf.specs.Demands.{Reads}
@@ -46,7 +47,7 @@ use Rattle.mxf.proofs.Inversion.{structures-listed, structures-none, st
 module _ (sys : ℕ) (fi : Bool) (n : ℕ) (s : List ℕ) where
   -- from place `at` on, where k have been gone through
   abbrev pub leftOf : ℕ → ℕ → Outcome
-  leftOf k at = structures sys fi (n - k) (22 + at) (drop at s)
+  leftOf k at = structures eight sys fi (n - k) (22 + at) (drop at s)
 
   abbrev pub restOf : ℕ → ℕ → List Packet
   restOf k at = listIn (leftOf k at)
@@ -58,16 +59,16 @@ module _ (sys : ℕ) (fi : Bool) (n : ℕ) (s : List ℕ) where
   none-gone = omega arith
 
   pub rest-all : restOf 0 0 ≡ packetsOfStructures sys fi n s
-  rest-all = ap (λ (m : ℕ). listIn (structures sys fi m 22 s)) (sym none-gone)
+  rest-all = ap (λ (m : ℕ). listIn (structures eight sys fi m 22 s)) (sym none-gone)
 
   pub left-all : Judged sys fi n s → Left 0 0
-  left-all j = subst (λ (m : ℕ). structures sys fi m 22 s ≡ listed (listIn (structures sys fi m 22 s))) none-gone j
+  left-all j = subst (λ (m : ℕ). structures eight sys fi m 22 s ≡ listed (listIn (structures eight sys fi m 22 s))) none-gone j
 
   pub left-none : (k at : ℕ) → Left k at → n ≤ k → restOf k at ≡ []
   left-none k at l h =
       let z : n - k ≡ 0 = omega arith in
-      let e : structures sys fi 0 (22 + at) (drop at s) ≡ listed (restOf k at) =
-      ap (λ (m : ℕ). structures sys fi m (22 + at) (drop at s)) (sym z) ∙ l in
+      let e : structures eight sys fi 0 (22 + at) (drop at s) ≡ listed (restOf k at) =
+      ap (λ (m : ℕ). structures eight sys fi m (22 + at) (drop at s)) (sym z) ∙ l in
       structures-none sys fi (22 + at) (drop at s) (restOf k at) e .1
 
   -- one of them: what its fields say, by their places in s
@@ -75,15 +76,15 @@ module _ (sys : ℕ) (fi : Bool) (n : ℕ) (s : List ℕ) where
     pub enough : twoIn s (at + 4) ≤ fourIn s (at + 6)
     pub inside : at + 14 + fourIn s (at + 6) ≤ length s
     pub dc : getD (drop at s) 16 0 + 3 ≡ twoIn s (at + 4)
-    pub front : restOf k at ≡ packetIn sys fi (drop at s) ∷ restOf (k + 1) (at + 14 + fourIn s (at + 6))
+    pub front : restOf k at ≡ packetIn eight sys fi (drop at s) ∷ restOf (k + 1) (at + 14 + fourIn s (at + 6))
     pub later : Left (k + 1) (at + 14 + fourIn s (at + 6))
 
   pub turn : (k at : ℕ) → Left k at → k < n → Turn k at
   turn k at l h =
       let t : List ℕ = drop at s in
       let one : n - k ≡ suc (n - (k + 1)) = omega arith in
-      let e : structures sys fi (suc (n - (k + 1))) (22 + at) t ≡ listed (restOf k at) =
-      ap (λ (m : ℕ). structures sys fi m (22 + at) t) (sym one) ∙ l in
+      let e : structures eight sys fi (suc (n - (k + 1))) (22 + at) t ≡ listed (restOf k at) =
+      ap (λ (m : ℕ). structures eight sys fi m (22 + at) t) (sym one) ∙ l in
       let m = structures-listed sys fi (n - (k + 1)) (22 + at) t (restOf k at) e in
       let st = m .structure in
       let long = length-drop at s in
@@ -92,14 +93,14 @@ module _ (sys : ℕ) (fi : Bool) (n : ℕ) (s : List ℕ) where
       let p : 22 + (at + 14 + fourIn s (at + 6)) ≡ 22 + at + sizeIn t = omega arith in
       let q : at + 14 + fourIn s (at + 6) ≡ at + sizeIn t = omega arith in
       let f : leftOf (k + 1) (at + 14 + fourIn s (at + 6)) ≡ listed (m .rest) =
-      ap₂ (λ (i : ℕ) (r : List ℕ). structures sys fi (n - (k + 1)) i r) p (ap (λ (i : ℕ). drop i s) q ∙ sym (drop-drop (sizeIn t) at s))
+      ap₂ (λ (i : ℕ) (r : List ℕ). structures eight sys fi (n - (k + 1)) i r) p (ap (λ (i : ℕ). drop i s) q ∙ sym (drop-drop (sizeIn t) at s))
       ∙ m .later in
       let g : restOf (k + 1) (at + 14 + fourIn s (at + 6)) ≡ m .rest = ap listIn f in
       record {
         enough = let x = st .enough in omega arith;
         inside = let x = st .inside in omega arith;
         dc = st .dc ∙ a;
-        front = m .front ∙ ap (λ (r : List Packet). packetIn sys fi t ∷ r) (sym g);
+        front = m .front ∙ ap (λ (r : List Packet). packetIn eight sys fi t ∷ r) (sym g);
         later = f ∙ ap listed (sym g);
       }
 
@@ -107,7 +108,7 @@ module _ (sys : ℕ) (fi : Bool) (n : ℕ) (s : List ℕ) where
 
 -- "samples run from DID to the last user word"
 pub packet-framed : (sys : ℕ) (fi : Bool) (t : List ℕ) (n : ℕ) → getD t 16 0 + 3 ≡ n → 14 + n ≤ length t
-    → words (packetIn sys fi t) ≡ framed (map word (take n (drop 14 t)))
+    → words (packetIn eight sys fi t) ≡ framed (map word (take n (drop 14 t)))
 unfolding words coded checkOf framed
 packet-framed sys fi t n e h =
     let d : ℕ = getD t 16 0 in
@@ -116,7 +117,7 @@ packet-framed sys fi t n e h =
     drop-cons t 14 0 (omega arith)
     ∙ ap (λ (r : List ℕ). getD t 14 0 ∷ r) (drop-cons t 15 0 (omega arith))
     ∙ ap (λ (r : List ℕ). getD t 14 0 ∷ getD t 15 0 ∷ r) (drop-cons t 16 0 (omega arith)) in
-    let b : take n (drop 14 t) ≡ body (packetIn sys fi t) =
+    let b : take n (drop 14 t) ≡ body (packetIn eight sys fi t) =
     ap₂ take (sym e ∙ add-three d) a ∙ ap (λ (m : ℕ). getD t 14 0 ∷ getD t 15 0 ∷ m ∷ take d (drop 17 t)) (sym l) in
     ap (λ (r : List ℕ). 0x000 ∷ 0x3FF ∷ 0x3FF ∷ (map word r ++ check (map word r) ∷ [])) (sym b)
 
@@ -149,11 +150,11 @@ module _ (sys : ℕ) (fi : Bool) (n : ℕ) (s out : List ℕ) where
       let next : at + (14 + count) ≡ at + 14 + fourIn s (at + 6) = omega arith in
       let qs : List Packet = restOf sys fi n s (k + 1) (at + (14 + count)) in
       let again : restOf sys fi n s (k + 1) (at + 14 + fourIn s (at + 6)) ≡ qs = ap (restOf sys fi n s (k + 1)) (sym next) in
-      let a : packetIn sys fi (drop at s) .line ≡ line = two-drop at 0 s ∙ ap (twoIn s) (add-zero at) ∙ sym e in
-      let b : packetIn sys fi (drop at s) .flags ≡ flags =
+      let a : packetIn eight sys fi (drop at s) .line ≡ line = two-drop at 0 s ∙ ap (twoIn s) (add-zero at) ∙ sym e in
+      let b : packetIn eight sys fi (drop at s) .flags ≡ flags =
       ap₂ (λ (v x : ℕ). v + 2 * cond (eqb x 4) 1 0) (sym q) (getD-drop at s 3 0) ∙ sym f in
       let m : locations (restOf sys fi n s k at) ≡ line ∷ flags ∷ locations qs =
-      ap locations (t .front ∙ ap (λ (r : List Packet). packetIn sys fi (drop at s) ∷ r) again)
+      ap locations (t .front ∙ ap (λ (r : List Packet). packetIn eight sys fi (drop at s) ∷ r) again)
       ∙ ap₂ (λ (x v : ℕ). x ∷ v ∷ locations qs) a b in
       let i : 2 * (k + 1) ≡ 2 * k + 2 = omega arith in
       record {
@@ -196,7 +197,7 @@ module _ (sys : ℕ) (fi : Bool) (n : ℕ) (s : List ℕ) (last : ℕ) where
 
     front : (y : System) → allowedOf y (restOf sys fi n s k at) ≡ cond (allowed y line) (suc (allowedOf y behind)) 0
     front y =
-        let a : packetIn sys fi (drop at s) .line ≡ line = two-drop at 0 s ∙ ap (twoIn s) (add-zero at) ∙ sym q in
+        let a : packetIn eight sys fi (drop at s) .line ≡ line = two-drop at 0 s ∙ ap (twoIn s) (add-zero at) ∙ sym q in
         ap (allowedOf y) (turn sys fi n s k at (was .left) h .front) ∙ ap (λ (m : ℕ). cond (allowed y m) (suc (allowedOf y behind)) 0) a
 
     pub allowing-stop : (y : System) → y .last ≡ last → allowed y line ≡ false → k ≡ allowedOf y (packetsOfStructures sys fi n s)
@@ -252,14 +253,14 @@ module _ (sys : ℕ) (fi : Bool) (n : ℕ) (s out : List ℕ) where
     step : Turn sys fi n s k at
     step = turn sys fi n s k at (was .left) h
 
-    packet-is : words (packetIn sys fi (drop at s)) ≡ framed (map word (take samples (drop (at + 14) s)))
+    packet-is : words (packetIn eight sys fi (drop at s)) ≡ framed (map word (take samples (drop (at + 14) s)))
     packet-is =
         let a = step .inside in
         let b = step .enough in
         packet-framed sys fi (drop at s) samples (step .dc) (let x = length-drop at s in omega arith)
         ∙ ap (λ (r : List ℕ). framed (map word (take samples r))) (drop-drop 14 at s)
 
-    user-long : length (packetIn sys fi (drop at s) .user) ≡ getD (drop at s) 16 0
+    user-long : length (packetIn eight sys fi (drop at s) .user) ≡ getD (drop at s) 16 0
     user-long =
         let a = step .inside in
         let b = step .enough in
@@ -267,15 +268,15 @@ module _ (sys : ℕ) (fi : Bool) (n : ℕ) (s out : List ℕ) where
         length-take-le (getD (drop at s) 16 0) (drop 17 (drop at s))
         (let x = length-drop at s in let y = length-drop 17 (drop at s) in omega arith)
 
-    packet-long : length (words (packetIn sys fi (drop at s))) ≡ samples + 4
-    packet-long = packet-words (packetIn sys fi (drop at s)) ∙ (let u = user-long in let d = step .dc in omega arith)
+    packet-long : length (words (packetIn eight sys fi (drop at s))) ≡ samples + 4
+    packet-long = packet-words (packetIn eight sys fi (drop at s)) ∙ (let u = user-long in let d = step .dc in omega arith)
 
     pub wording-room : o + samples + 4 ≤ length out
     wording-room =
         let l = was .room in
-        let a : length (allWords (restOf sys fi n s k at)) ≡ length (words (packetIn sys fi (drop at s)) ++ allWords qs) =
+        let a : length (allWords (restOf sys fi n s k at)) ≡ length (words (packetIn eight sys fi (drop at s)) ++ allWords qs) =
         ap (λ (r : List Packet). length (allWords r)) (step .front) in
-        let b = length-append (words (packetIn sys fi (drop at s))) (allWords qs) in
+        let b = length-append (words (packetIn eight sys fi (drop at s))) (allWords qs) in
         let c = packet-long in
         omega arith
 
@@ -308,7 +309,7 @@ module _ (sys : ℕ) (fi : Bool) (n : ℕ) (s out : List ℕ) where
         abbrev later : List Packet
         later = restOf sys fi n s (k + 1) (at + 14 + cr)
 
-        ys-are : ys ≡ words (packetIn sys fi (drop at s))
+        ys-are : ys ≡ words (packetIn eight sys fi (drop at s))
         ys-are =
             q
             ∙ words-after bytes lent (lent-long ∙ ap (λ (m : ℕ). m + 4) (sym bytes-long))
@@ -441,13 +442,13 @@ module _ (sys : ℕ) (fi : Bool) (e sheet : List ℕ) (j : ElementRead) (h : j �
     abbrev structs : List ℕ
     structs = take (length e - 22) (drop 22 e)
 
-    structs-judged : structures sys fi (j .packets) 22 structs ≡ listed found
+    structs-judged : structures eight sys fi (j .packets) 22 structs ≡ listed found
     structs-judged =
         let d = judged-listed sys fi e found found-is .later in
         let c : j .packets ≡ twoIn e 20 = packets-are ∙ structures-count sys fi (twoIn e 20) 22 (drop 22 e) found d in
         let l = length-drop 22 e in
-        ap (structures sys fi (j .packets) 22) (take-all (length e - 22) (drop 22 e) (omega arith))
-        ∙ ap (λ (m : ℕ). structures sys fi m 22 (drop 22 e)) c
+        ap (structures eight sys fi (j .packets) 22) (take-all (length e - 22) (drop 22 e) (omega arith))
+        ∙ ap (λ (m : ℕ). structures eight sys fi m 22 (drop 22 e)) c
         ∙ d
 
     pub structs-are : Judged sys fi (j .packets) structs

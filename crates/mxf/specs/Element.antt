@@ -4,6 +4,8 @@
 -- choice of our own writing. So 'padding aside' is: for some padding.
 --
 -- In order: numbers in bytes; table 6; wrapping and coding; a packet with its padding; table 7; table 5.
+--
+-- What the elements of 8-bit and of ten-bit samples have in common stands here once, for either coding.
 -- Assumes nothing.
 use Prim.Native.Nat.{ℕ, _+_, _/_, _%_}
 use mathlib.Core.Bool.{Bool, cond}
@@ -43,10 +45,27 @@ progressive sys = eqb sys 3
 unfoldable pub wrapping : ℕ → ℕ
 wrapping sys = cond (progressive sys) 4 1
 
--- "The legend of figure 6 in 001 decides which YCF value is luma": 1 (flags: "bit 1 is YCF"). "4 8-bit luma samples", "5 8-bit color
--- difference samples"
+-- "Payload Sample Coding": samples of 8 bits (document 02, A1), or of ten (A13)
+pub data Coding : Type 0 where
+  eight : Coding
+  ten : Coding
+
+-- "4 8-bit luma samples", "7 10-bit luma samples"
+abbrev pub luma : Coding → ℕ
+luma eight = 4
+luma ten = 7
+
+-- "5 8-bit color difference samples", "8 10-bit color difference samples"
+abbrev pub colour : Coding → ℕ
+colour eight = 5
+colour ten = 8
+
+-- "The legend of figure 6 in 001 decides which YCF value is luma": 1 (flags: "bit 1 is YCF")
+abbrev pub codingOf : Coding → ℕ → ℕ
+codingOf c flags = cond (eqb (flags / 2) 1) (luma c) (colour c)
+
 unfoldable pub coding : ℕ → ℕ
-coding flags = cond (eqb (flags / 2) 1) 4 5
+coding flags = codingOf eight flags
 
 -- ---- a packet and its padding
 
@@ -89,8 +108,11 @@ value sys xs = two (length xs) ++ joined (structure sys) xs
 
 -- "ANC Element Key", "Length", "83.xx.xx.xxh", "ANC Element Value". "The value of the length property shall be the length of the ANC
 -- Element Value."
+abbrev pub klv : List ℕ → List ℕ
+klv value = key ++ 0x83 ∷ three (length value) ++ value
+
 unfoldable pub element : ℕ → List Padded → List ℕ
-element sys xs = key ++ 0x83 ∷ three (length (value sys xs)) ++ value sys xs
+element sys xs = klv (value sys xs)
 
 -- as we write it
 abbrev pub elementOf : ℕ → List Packet → List ℕ

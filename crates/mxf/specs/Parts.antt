@@ -15,6 +15,7 @@ use Rattle.rules.specs.Sheet.{limit, allWords, sheetOf}
 use Rattle.rules.specs.Numbers.{Outcome, listed, refused}
 use Rattle.rules.specs.Reading.{bufferOf}
 use Rattle.sheet.specs.Write.{listIn}
+use Rattle.mxf.specs.Element.{eight}
 use Rattle.mxf.specs.Judging.{twoIn, fourIn, sizeIn, frontThen, arrayThen, structures}
 use Rattle.mxf.specs.Reading.{readOf}
 use Rattle.mxf.specs.declared.ElementRead.{ElementRead}
@@ -35,7 +36,7 @@ pub record Whole (s : List ℕ) : Type 0 where
 
 -- none of its fields is at fault, wherever it starts: what follows decides
 abbrev pub Passes : ℕ → List ℕ → Type 0
-Passes sys s = (at : ℕ) (o : Outcome) → frontThen sys (22 + at) s (arrayThen (22 + at) s o) ≡ o
+Passes sys s = (at : ℕ) (o : Outcome) → frontThen eight sys (22 + at) s (arrayThen eight (22 + at) s o) ≡ o
 
 -- ---- structures that have been passed over
 
@@ -49,7 +50,7 @@ addTo k numbers (refused n i) = record { number = n; place = i; packets = 0; num
 
 -- the structures from a place on, with the packets in front of them: what is left of the whole
 abbrev pub wholeFrom : ℕ → Bool → ℕ → ℕ → ℕ → ℕ → List ℕ → ElementRead
-wholeFrom sys fi n k at numbers s = addTo k numbers (structures sys fi (n - k) (22 + at) (drop at s))
+wholeFrom sys fi n k at numbers s = addTo k numbers (structures eight sys fi (n - k) (22 + at) (drop at s))
 
 -- k of n structures end at a place, and with their figures those from there on give what all of them give. A structure has more bytes than
 -- its packet has sheet numbers
@@ -57,17 +58,17 @@ pub record Begun (sys last n : ℕ) (s : List ℕ) (k at numbers : ℕ) : Type 0
   pub few : k ≤ n
   pub inside : at ≤ length s
   pub short : numbers ≤ 4 + at
-  pub same : last ≡ system sys .last → (fi : Bool) → wholeFrom sys fi n k at numbers s ≡ readOf sys (structures sys fi n 22 s)
+  pub same : last ≡ system sys .last → (fi : Bool) → wholeFrom sys fi n k at numbers s ≡ readOf sys (structures eight sys fi n 22 s)
 
 -- ---- the packets of structures
 
 -- the packets of n structures that have been judged
 abbrev pub packetsOfStructures : ℕ → Bool → ℕ → List ℕ → List Packet
-packetsOfStructures sys fi n s = listIn (structures sys fi n 22 s)
+packetsOfStructures sys fi n s = listIn (structures eight sys fi n 22 s)
 
 -- no structure is at fault, and nothing follows the last
 abbrev pub Judged : ℕ → Bool → ℕ → List ℕ → Type 0
-Judged sys fi n s = structures sys fi n 22 s ≡ listed (packetsOfStructures sys fi n s)
+Judged sys fi n s = structures eight sys fi n 22 s ≡ listed (packetsOfStructures sys fi n s)
 
 -- n structures that have been judged for some system and FI: of these their lines say nothing
 pub record Found (n : ℕ) (s : List ℕ) : Type 0 where

@@ -9,7 +9,7 @@ ghost use mathlib.Core.Bool.{Bool, true};
 ghost use lib.ListN.{length};
 ghost use Rattle.rules.specs.Systems.{system as systemOf};
 ghost use Rattle.rules.specs.Numbers.{Outcome, refused};
-ghost use Rattle.mxf.specs.Element.{key, wrapping as wrappingOf};
+ghost use Rattle.mxf.specs.Element.{eight, key, wrapping as wrappingOf};
 ghost use Rattle.mxf.specs.Judging.{twoIn, threeIn, fourIn, frontThen, arrayThen, structures, keyThen, headThen, judged};
 ghost use Rattle.mxf.specs.Reading.{readOf};
 ghost use Rattle.mxf.specs.Parts.{faultOr, Whole, Passes, Begun};
@@ -92,7 +92,7 @@ fn head_fault(e: &[u8]) -> usize
 // Line, wrapping and coding of a structure that starts at place `at` (004, table 7): the place of the first fault; 0 where there is none.
 fn front_fault(system: u64, last: Line, at: usize, s: &[u8]) -> usize
     requires { ⌜ (0 < at) × (at + length (now s) < 4294967296) ⌝ }
-    ensures { λ r. ⌜ (last .0 ≡ systemOf system .last → (o : Outcome) → frontThen system at (now (s .entry)) o ≡ faultOr 0 r o) ⌝ }
+    ensures { λ r. ⌜ (last .0 ≡ systemOf system .last → (o : Outcome) → frontThen eight system at (now (s .entry)) o ≡ faultOr 0 r o) ⌝ }
 {
     let missing = at + s.len();
     if s.len() < 2 {
@@ -121,7 +121,7 @@ fn front_fault(system: u64, last: Line, at: usize, s: &[u8]) -> usize
 // The count is of 32 bits and says nothing of the bytes that are there: it is compared with those left, so that no sum can wrap.
 fn array_fault(at: usize, s: &[u8]) -> usize
     requires { ⌜ (0 < at) × (at + length (now s) < 4294967296) ⌝ }
-    ensures { λ r. ⌜ ((o : Outcome) → arrayThen at (now (s .entry)) o ≡ faultOr 0 r o) × (r ≡ 0 → Whole (now (s .entry))) ⌝ }
+    ensures { λ r. ⌜ ((o : Outcome) → arrayThen eight at (now (s .entry)) o ≡ faultOr 0 r o) × (r ≡ 0 → Whole (now (s .entry))) ⌝ }
 {
     let missing = at + s.len();
     if s.len() < 6 {
@@ -151,7 +151,7 @@ fn array_fault(at: usize, s: &[u8]) -> usize
 fn structure_fault(system: u64, last: Line, at: usize, s: &[u8]) -> usize
     requires { ⌜ (0 < at) × (at + length (now s) < 4294967296) ⌝ }
     ensures { λ r. ⌜ (last .0 ≡ systemOf system .last
-        → (o : Outcome) → frontThen system at (now (s .entry)) (arrayThen at (now (s .entry)) o) ≡ faultOr 0 r o)
+        → (o : Outcome) → frontThen eight system at (now (s .entry)) (arrayThen eight at (now (s .entry)) o) ≡ faultOr 0 r o)
         × (r ≡ 0 → Whole (now (s .entry))) ⌝ }
 {
     let front = front_fault(system, last, at, s);
@@ -231,7 +231,7 @@ fn sound_structures(system: u64, last: Line, n: usize, s: &[u8]) -> Passed
 // numbers of their sheet.
 fn judge_structures(system: u64, last: Line, n: usize, s: &[u8]) -> ElementRead
     requires { ⌜ (n < 65536) × (length (now s) < 16777216) ⌝ }
-    ensures { λ r. ⌜ (last .0 ≡ systemOf system .last → (fi : Bool) → r ≡ readOf system (structures system fi n 22 (now (s .entry)))) ⌝ }
+    ensures { λ r. ⌜ (last .0 ≡ systemOf system .last → (fi : Bool) → r ≡ readOf system (structures eight system fi n 22 (now (s .entry)))) ⌝ }
 {
     let run = sound_structures(system, last, n, s);
     let mut k = run.count;

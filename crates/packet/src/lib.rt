@@ -213,7 +213,7 @@ fn passed(system: u64, packets: u64, bytes: u64, packs: u64) -> Tested
 }
 
 // "7 | fewer than 7 words left, or no 000h 3FFh 3FFh" (document 01): whether neither holds.
-fn is_flagged(ws: &[u16]) -> bool
+pub fn is_flagged(ws: &[u16]) -> bool
     ensures { λ r. ⌜ r ≡ not (ltb (length (now (ws .entry))) 7 || not (flagged (now (ws .entry)))) ⌝ }
 {
     if ws.len() < 7 || ws[0] != 0x000 || ws[1] != 0x3FF || ws[2] != 0x3FF {
@@ -274,7 +274,7 @@ fn dc_of(ws: &[u16]) -> usize
 }
 
 // How many words the packet in front takes, DC + 7, as far as there are so many.
-fn size_of(ws: &[u16]) -> usize
+pub fn size_of(ws: &[u16]) -> usize
     ensures { λ r. ⌜ SizeOf (now (ws .entry)) r ⌝ }
 {
     let n = dc_of(ws) + 7;
@@ -351,7 +351,7 @@ fn flag_word(ws: &[u16]) -> usize
 }
 
 // The word that the number of a packet's fault names. CS stands behind DC and the user words.
-fn word_at(number: u64, ws: &[u16]) -> u64
+pub fn word_at(number: u64, ws: &[u16]) -> u64
     ensures { λ r. ⌜ r ≡ wordAt number (now (ws .entry)) ⌝ }
 {
     match number {

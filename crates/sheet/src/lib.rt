@@ -45,7 +45,7 @@ fn refusal(number: u64, place: u64, word: u64) -> Tested
 
 // "2 | section A's count is not 1, the sheet ends early, or numbers follow section C".
 // "A sheet has 4 + 2P + W numbers": up to 196,609, so the sums are of places and not of the sheet's own numbers.
-fn is_shaped(s: &[u16]) -> bool
+pub fn is_shaped(s: &[u16]) -> bool
     ensures { λ r. ⌜ r ≡ shaped (now (s .entry)) ⌝ }
 {
     if s.len() < 4 || s[0] != 1 {
@@ -129,7 +129,7 @@ fn all_in_place(last: Line, ls: &[u16]) -> bool
 }
 
 // What in_place gives, of P locations: the first that is not in its place is looked for only where there is one.
-fn placed(last: Line, p: usize, ls: &[u16]) -> usize
+pub fn placed(last: Line, p: usize, ls: &[u16]) -> usize
     requires { ⌜ length (now ls) ≡ 2 * p ⌝ }
     ensures { λ r. ⌜ ((y : System) → y .last ≡ last .0 → r ≡ inFront (inPlace y) (now (ls .entry))) ⌝ }
 {
@@ -140,7 +140,7 @@ fn placed(last: Line, p: usize, ls: &[u16]) -> usize
 }
 
 // "after 6 on all locations" 20 (document 02, A3), of P locations of which the k-th is the first that is not in its place.
-fn location_fault(last: Line, p: usize, k: usize, ls: &[u16]) -> Tested
+pub fn location_fault(last: Line, p: usize, k: usize, ls: &[u16]) -> Tested
     requires { ⌜ length (now ls) ≡ 2 * p ⌝ }
     ensures { λ r. ⌜ ((y : System) → y .last ≡ last .0 → k ≡ inFront (inPlace y) (now (ls .entry)) → (k ≡ p → ⊥)
         → (sys : ℕ) (ws : List ℕ) (o : Outcome) → r ≡ testedIn sys ws (locationTests y (now (ls .entry)) o)) ⌝ }
