@@ -21,7 +21,7 @@ use Rattle.rules.specs.Reading.{bufferOf}
 use Rattle.rules.proofs.Basics.{never, both}
 use Rattle.rules.proofs.Sheets.{locations-allowed, locations-fine, passed-on, at-from}
 use Rattle.sheet.specs.Write.{hasRoom}
-use Rattle.mxf.specs.Element.{Padded, packetsOf}
+use Rattle.mxf.specs.Element.{eight, Padded, packetsOf}
 use Rattle.mxf.specs.Judging.{judged}
 use Rattle.mxf.specs.Reading.{lastTests, packetTests, reading, readOf, read, sheetAfter}
 use Rattle.mxf.specs.Demands.{Gives, Unread, Reads}
@@ -97,7 +97,7 @@ module _ (sys : ℕ) (fi : Bool) (e : List ℕ) (room : ℕ) (kn : known sys ≡
       go : (o : Outcome) → judged sys fi e ≡ o → andThen o (packetTests sys room) ≡ refused n i → 1 ≤ n
       go (listed qs) q z =
           at-from 1 20 (locationAllowed (system sys)) 0 (locations qs) _ n i (last qs (leb (length qs) limit) (hasRoom sys room qs)) (omega arith) z
-      go (refused m j) q z = let k = judged-number sys fi e n i (q ∙ z) in omega arith
+      go (refused m j) q z = let k = judged-number eight sys fi e n i (q ∙ z) in omega arith
 
 -- ---- the contract
 

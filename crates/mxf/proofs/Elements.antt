@@ -22,7 +22,7 @@ use Rattle.rules.proofs.Lines.{allowed-stands, OnAllowed}
 use Rattle.mxf.specs.Element.{eight, Padded, packetsOf, progressive, two, three, key, wrapping, coding, samples, structure, value, element}
 use Rattle.mxf.specs.Served.{fiRead}
 use Rattle.mxf.specs.Judging.{twoIn, threeIn, fourIn, inFrame, isCoding, isCount, sizeIn, frontThen, arrayThen, packetIn}
-use Rattle.mxf.specs.Judging.{structures, keyThen, headThen, judged}
+use Rattle.mxf.specs.Judging.{structures, keyThen, headThen, judged, judgedAs}
 use Rattle.mxf.specs.Demands.{Held, Gives}
 use Rattle.mxf.proofs.JudgingLaws.{right}
 use Rattle.mxf.proofs.Inversion.{Structure, structures-listed, Head, judged-listed}
@@ -300,7 +300,7 @@ fi-small sys fi = go (progressive sys) fi
     go true false = omega arith
     go false f = omega arith
 
-module _ (sys : ℕ) (fi : Bool) (s : List ℕ) (hs : Bytes s) (g : Structure sys s) where
+module _ (sys : ℕ) (fi : Bool) (s : List ℕ) (hs : Bytes s) (g : Structure eight sys s) where
   abbrev x : Padded
   x = paddedIn sys fi s
 
@@ -439,7 +439,7 @@ structures-written : (sys : ℕ) (fi : Bool) (n at : ℕ) (s : List ℕ) (ps : L
 structures-written sys fi zero at [] ps hs e fine = record { items = []; packets = cc; count = refl; held = none; whole = refl }
 structures-written sys fi zero at (b ∷ s) ps hs e fine = never (cc)
 structures-written sys fi (suc n) at s ps hs e fine =
-    let m = structures-listed sys fi n at s ps e in
+    let m = structures-listed eight sys fi n at s ps e in
     let w = first-rest (packetIn eight sys fi s) (m .rest) (subst (All (OnAllowed (system sys))) (m .front) fine) in
     let later = structures-written sys fi n (at + sizeIn s) (drop (sizeIn s) s) (m .rest) (drop-bytes (sizeIn s) s hs) (m .later) (w .1) in
     record {
@@ -463,7 +463,7 @@ gives-sound sys fi (x ∷ xs) (one g gs) = one (g .sound) (gives-sound sys fi xs
 
 -- what is given is read
 pub gives-judged : (sys : ℕ) (fi : Bool) (xs : List Padded) (e : List ℕ) → Gives sys fi xs e → judged sys fi e ≡ listed (packetsOf xs)
-unfolding judged
+unfolding judgedAs
 gives-judged sys fi xs e g =
     let v = value-length sys xs in
     let short = g .short in
@@ -532,6 +532,6 @@ head-written sys fi d ps hd h w =
 pub judged-gives : (sys : ℕ) (fi : Bool) (e : List ℕ) (ps : List Packet) → Bytes e → judged sys fi e ≡ listed ps → All (OnAllowed (system sys)) ps
     → (xs : List Padded) × (packetsOf xs ≡ ps) × Gives sys fi xs e
 judged-gives sys fi e ps he z fine =
-    let h = judged-listed sys fi e ps z in
+    let h = judged-listed eight sys fi e ps z in
     let w = structures-written sys fi (twoIn e 20) 22 (drop 22 e) ps (drop-bytes 22 e he) (h .later) fine in
     (w .items, w .packets, head-written sys fi e ps he (h .head) w)

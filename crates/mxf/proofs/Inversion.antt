@@ -22,9 +22,9 @@ use Rattle.rules.specs.Systems.{system}
 use Rattle.rules.specs.Packet.{Packet}
 use Rattle.rules.specs.Numbers.{Outcome, listed, refused, also}
 use Rattle.rules.proofs.Basics.{never, both}
-use Rattle.mxf.specs.Element.{eight, key, wrapping}
-use Rattle.mxf.specs.Judging.{twoIn, threeIn, fourIn, field, inFrame, isCoding, isCount, sizeIn, frontThen, arrayThen, packetIn}
-use Rattle.mxf.specs.Judging.{structures, keyThen, headThen, judged}
+use Rattle.mxf.specs.Element.{key, wrapping, Coding}
+use Rattle.mxf.specs.Judging.{twoIn, threeIn, fourIn, field, inFrame, isCoding, others, isCount, arrayFor, sizeIn, dcIn, dcBytes, frontThen, arrayThen, packetIn}
+use Rattle.mxf.specs.Judging.{structures, keyThen, headThen, judgedAs}
 
 -- ---- a field
 
@@ -45,79 +45,79 @@ field-listed at s i size right o ps e = go (ltb (length s) (i + size)) right ref
 
 -- ---- a structure
 
-pub record Front (sys : ℕ) (s : List ℕ) (o : Outcome) (ps : List Packet) : Type 0 where
+pub record Front (c : Coding) (sys : ℕ) (s : List ℕ) (o : Outcome) (ps : List Packet) : Type 0 where
   pub lined : twoIn s 0 ≡ 0 → ⊥
   pub wrapped : getD s 2 0 ≡ wrapping sys
-  pub coded : isCoding eight (getD s 3 0) ≡ true
+  pub coded : isCoding c (getD s 3 0) ≡ true
   pub later : o ≡ listed ps
 
-pub front-listed : (sys at : ℕ) (s : List ℕ) (o : Outcome) (ps : List Packet) → frontThen eight sys at s o ≡ listed ps → Front sys s o ps
+pub front-listed : (c : Coding) (sys at : ℕ) (s : List ℕ) (o : Outcome) (ps : List Packet) → frontThen c sys at s o ≡ listed ps → Front c sys s o ps
 unfolding frontThen
-front-listed sys at s o ps e =
+front-listed c sys at s o ps e =
     let a = field-listed at s 0 2 _ _ ps e in
     let b = field-listed at s 2 1 _ _ ps (a .later) in
-    let c = field-listed at s 3 1 _ _ ps (b .later) in
+    let k = field-listed at s 3 1 _ _ ps (b .later) in
     let l = both _ _ (a .holds) in
     record {
       lined = eqb-false (twoIn s 0) 0 (not-true (eqb (twoIn s 0) 0) (l .0));
       wrapped = eqb-true (getD s 2 0) (wrapping sys) (b .holds);
-      coded = c .holds;
-      later = c .later;
+      coded = k .holds;
+      later = k .later;
     }
 
-pub record Array (s : List ℕ) (o : Outcome) (ps : List Packet) : Type 0 where
-  pub least : 3 ≤ twoIn s 4
-  pub most : twoIn s 4 ≤ 258
-  pub enough : twoIn s 4 ≤ fourIn s 6
+pub record Array (c : Coding) (s : List ℕ) (o : Outcome) (ps : List Packet) : Type 0 where
+  pub least : others c ≤ twoIn s 4
+  pub most : twoIn s 4 ≤ others c + 255
+  pub enough : arrayFor c (twoIn s 4) ≤ fourIn s 6
   pub inside : sizeIn s ≤ length s
   pub single : fourIn s 10 ≡ 1
-  pub dc : getD s 16 0 + 3 ≡ twoIn s 4
+  pub dc : dcIn c s + others c ≡ twoIn s 4
   pub later : o ≡ listed ps
 
-pub array-listed : (at : ℕ) (s : List ℕ) (o : Outcome) (ps : List Packet) → arrayThen eight at s o ≡ listed ps → Array s o ps
+pub array-listed : (c : Coding) (at : ℕ) (s : List ℕ) (o : Outcome) (ps : List Packet) → arrayThen c at s o ≡ listed ps → Array c s o ps
 unfolding arrayThen
-array-listed at s o ps e =
+array-listed c at s o ps e =
     let a = field-listed at s 4 2 _ _ ps e in
     let b = field-listed at s 6 4 _ _ ps (a .later) in
-    let c = field-listed at s 10 4 _ _ ps (b .later) in
-    let d = field-listed at s 16 1 _ _ ps (c .later) in
+    let f = field-listed at s 10 4 _ _ ps (b .later) in
+    let d = field-listed at s 16 (dcBytes c) _ _ ps (f .later) in
     let m = both _ _ (a .holds) in
     let n = both _ _ (b .holds) in
     record {
-      least = leb-true 3 (twoIn s 4) (m .0);
-      most = leb-true (twoIn s 4) 258 (m .1);
-      enough = leb-true (twoIn s 4) (fourIn s 6) (n .0);
+      least = leb-true (others c) (twoIn s 4) (m .0);
+      most = leb-true (twoIn s 4) (others c + 255) (m .1);
+      enough = leb-true (arrayFor c (twoIn s 4)) (fourIn s 6) (n .0);
       inside = leb-true (sizeIn s) (length s) (n .1);
-      single = eqb-true (fourIn s 10) 1 (c .holds);
-      dc = eqb-true (getD s 16 0 + 3) (twoIn s 4) (d .holds);
+      single = eqb-true (fourIn s 10) 1 (f .holds);
+      dc = eqb-true (dcIn c s + others c) (twoIn s 4) (d .holds);
       later = d .later;
     }
 
 -- ---- the structures
 
-pub record Structure (sys : ℕ) (s : List ℕ) : Type 0 where
+pub record Structure (c : Coding) (sys : ℕ) (s : List ℕ) : Type 0 where
   pub lined : twoIn s 0 ≡ 0 → ⊥
   pub wrapped : getD s 2 0 ≡ wrapping sys
-  pub coded : isCoding eight (getD s 3 0) ≡ true
-  pub least : 3 ≤ twoIn s 4
-  pub most : twoIn s 4 ≤ 258
-  pub enough : twoIn s 4 ≤ fourIn s 6
+  pub coded : isCoding c (getD s 3 0) ≡ true
+  pub least : others c ≤ twoIn s 4
+  pub most : twoIn s 4 ≤ others c + 255
+  pub enough : arrayFor c (twoIn s 4) ≤ fourIn s 6
   pub inside : sizeIn s ≤ length s
   pub single : fourIn s 10 ≡ 1
-  pub dc : getD s 16 0 + 3 ≡ twoIn s 4
+  pub dc : dcIn c s + others c ≡ twoIn s 4
 
-pub record More (sys : ℕ) (fi : Bool) (n at : ℕ) (s : List ℕ) (ps : List Packet) : Type 0 where
-  pub structure : Structure sys s
+pub record More (c : Coding) (sys : ℕ) (fi : Bool) (n at : ℕ) (s : List ℕ) (ps : List Packet) : Type 0 where
+  pub structure : Structure c sys s
   pub rest : List Packet
-  pub front : ps ≡ packetIn eight sys fi s ∷ rest
-  pub later : structures eight sys fi n (at + sizeIn s) (drop (sizeIn s) s) ≡ listed rest
+  pub front : ps ≡ packetIn c sys fi s ∷ rest
+  pub later : structures c sys fi n (at + sizeIn s) (drop (sizeIn s) s) ≡ listed rest
 
-pub structures-listed : (sys : ℕ) (fi : Bool) (n at : ℕ) (s : List ℕ) (ps : List Packet) → structures eight sys fi (suc n) at s ≡ listed ps
-    → More sys fi n at s ps
-structures-listed sys fi n at s ps e =
-    let a = front-listed sys at s _ ps e in
-    let b = array-listed at s _ ps (a .later) in
-    go (structures eight sys fi n (at + sizeIn s) (drop (sizeIn s) s)) refl (b .later)
+pub structures-listed : (c : Coding) (sys : ℕ) (fi : Bool) (n at : ℕ) (s : List ℕ) (ps : List Packet) → structures c sys fi (suc n) at s ≡ listed ps
+    → More c sys fi n at s ps
+structures-listed c sys fi n at s ps e =
+    let a = front-listed c sys at s _ ps e in
+    let b = array-listed c at s _ ps (a .later) in
+    go (structures c sys fi n (at + sizeIn s) (drop (sizeIn s) s)) refl (b .later)
     (record {
       lined = a .lined;
       wrapped = a .wrapped;
@@ -130,21 +130,21 @@ structures-listed sys fi n at s ps e =
       dc = b .dc;
     })
   where
-    go : (o : Outcome) → structures eight sys fi n (at + sizeIn s) (drop (sizeIn s) s) ≡ o → also (packetIn eight sys fi s) o ≡ listed ps → Structure sys s
-        → More sys fi n at s ps
-    go (listed qs) q e t = record { structure = t; rest = qs; front = (let z : packetIn eight sys fi s ∷ qs ≡ ps = cc in sym z); later = q }
+    go : (o : Outcome) → structures c sys fi n (at + sizeIn s) (drop (sizeIn s) s) ≡ o → also (packetIn c sys fi s) o ≡ listed ps → Structure c sys s
+        → More c sys fi n at s ps
+    go (listed qs) q e t = record { structure = t; rest = qs; front = (let z : packetIn c sys fi s ∷ qs ≡ ps = cc in sym z); later = q }
     go (refused m i) q e t = never (cc)
 
-pub structures-none : (sys : ℕ) (fi : Bool) (at : ℕ) (s : List ℕ) (ps : List Packet) → structures eight sys fi zero at s ≡ listed ps
+pub structures-none : (c : Coding) (sys : ℕ) (fi : Bool) (at : ℕ) (s : List ℕ) (ps : List Packet) → structures c sys fi zero at s ≡ listed ps
     → (s ≡ []) × (ps ≡ [])
-structures-none sys fi at [] ps e = (refl, cc)
-structures-none sys fi at (b ∷ s) ps e = never (cc)
+structures-none c sys fi at [] ps e = (refl, cc)
+structures-none c sys fi at (b ∷ s) ps e = never (cc)
 
-pub structures-count : (sys : ℕ) (fi : Bool) (n at : ℕ) (s : List ℕ) (ps : List Packet) → structures eight sys fi n at s ≡ listed ps → length ps ≡ n
-structures-count sys fi zero at s ps e = ap length (structures-none sys fi at s ps e .1)
-structures-count sys fi (suc n) at s ps e =
-    let m = structures-listed sys fi n at s ps e in
-    ap length (m .front) ∙ ap suc (structures-count sys fi n (at + sizeIn s) (drop (sizeIn s) s) (m .rest) (m .later))
+pub structures-count : (c : Coding) (sys : ℕ) (fi : Bool) (n at : ℕ) (s : List ℕ) (ps : List Packet) → structures c sys fi n at s ≡ listed ps → length ps ≡ n
+structures-count c sys fi zero at s ps e = ap length (structures-none c sys fi at s ps e .1)
+structures-count c sys fi (suc n) at s ps e =
+    let m = structures-listed c sys fi n at s ps e in
+    ap length (m .front) ∙ ap suc (structures-count c sys fi n (at + sizeIn s) (drop (sizeIn s) s) (m .rest) (m .later))
 
 -- ---- key, length and N
 
@@ -170,25 +170,25 @@ pub record Head (e : List ℕ) : Type 0 where
   pub measured : 20 + threeIn e 17 ≡ length e
   pub counted : 22 ≤ length e
 
-pub record Element (sys : ℕ) (fi : Bool) (e : List ℕ) (ps : List Packet) : Type 0 where
+pub record Element (c : Coding) (sys : ℕ) (fi : Bool) (e : List ℕ) (ps : List Packet) : Type 0 where
   pub head : Head e
-  pub later : structures eight sys fi (twoIn e 20) 22 (drop 22 e) ≡ listed ps
+  pub later : structures c sys fi (twoIn e 20) 22 (drop 22 e) ≡ listed ps
 
-pub judged-listed : (sys : ℕ) (fi : Bool) (e : List ℕ) (ps : List Packet) → judged sys fi e ≡ listed ps → Element sys fi e ps
-unfolding judged headThen key
-judged-listed sys fi e ps h =
+pub judged-listed : (c : Coding) (sys : ℕ) (fi : Bool) (e : List ℕ) (ps : List Packet) → judgedAs c sys fi e ≡ listed ps → Element c sys fi e ps
+unfolding judgedAs headThen key
+judged-listed c sys fi e ps h =
     let k = key-listed 0 key e _ ps h in
     let a = field-listed 0 e 16 1 _ _ ps (k .later) in
     let b = field-listed 0 e 17 3 _ _ ps (a .later) in
-    let c = field-listed 0 e 20 2 true _ ps (b .later) in
+    let d = field-listed 0 e 20 2 true _ ps (b .later) in
     record {
       head = record {
         keyed = k .key;
         longForm = eqb-true (getD e 16 0) 0x83 (a .holds);
         measured = eqb-true (20 + threeIn e 17) (length e) (b .holds);
-        counted = c .there;
+        counted = d .there;
       };
-      later = c .later;
+      later = d .later;
     }
 
 -- ---- a refusal is 19
@@ -214,29 +214,29 @@ also-number : (p : Packet) (o : Outcome) → Nineteen o → Nineteen (also p o)
 also-number p (listed ps) h = listed-number (p ∷ ps)
 also-number p (refused n i) h = h
 
-structures-number : (sys : ℕ) (fi : Bool) (n at : ℕ) (s : List ℕ) → Nineteen (structures eight sys fi n at s)
+structures-number : (c : Coding) (sys : ℕ) (fi : Bool) (n at : ℕ) (s : List ℕ) → Nineteen (structures c sys fi n at s)
 unfolding frontThen arrayThen
-structures-number sys fi zero at [] = listed-number []
-structures-number sys fi zero at (b ∷ s) = refused-number at
-structures-number sys fi (suc n) at s =
+structures-number c sys fi zero at [] = listed-number []
+structures-number c sys fi zero at (b ∷ s) = refused-number at
+structures-number c sys fi (suc n) at s =
     field-number at s 0 2 (inFrame (system sys) (twoIn s 0)) _
     (field-number at s 2 1 (eqb (getD s 2 0) (wrapping sys)) _
-    (field-number at s 3 1 (isCoding eight (getD s 3 0)) _
-    (field-number at s 4 2 (isCount eight (twoIn s 4)) _
-    (field-number at s 6 4 (leb (twoIn s 4) (fourIn s 6) && leb (sizeIn s) (length s)) _
+    (field-number at s 3 1 (isCoding c (getD s 3 0)) _
+    (field-number at s 4 2 (isCount c (twoIn s 4)) _
+    (field-number at s 6 4 (leb (arrayFor c (twoIn s 4)) (fourIn s 6) && leb (sizeIn s) (length s)) _
     (field-number at s 10 4 (eqb (fourIn s 10) 1) _
-    (field-number at s 16 1 (eqb (getD s 16 0 + 3) (twoIn s 4)) _
-    (also-number (packetIn eight sys fi s) _ (structures-number sys fi n (at + sizeIn s) (drop (sizeIn s) s)))))))))
+    (field-number at s 16 (dcBytes c) (eqb (dcIn c s + others c) (twoIn s 4)) _
+    (also-number (packetIn c sys fi s) _ (structures-number c sys fi n (at + sizeIn s) (drop (sizeIn s) s)))))))))
 
 key-number : (i : ℕ) (ks e : List ℕ) (o : Outcome) → Nineteen o → Nineteen (keyThen i ks e o)
 key-number i [] e o h = h
 key-number i (k ∷ ks) e o h = field-number 0 e i 1 (eqb (getD e i 0) k) _ (key-number (suc i) ks e o h)
 
-pub judged-number : (sys : ℕ) (fi : Bool) (e : List ℕ) (n i : ℕ) → judged sys fi e ≡ refused n i → n ≡ 19
-unfolding judged headThen
-judged-number sys fi e =
+pub judged-number : (c : Coding) (sys : ℕ) (fi : Bool) (e : List ℕ) (n i : ℕ) → judgedAs c sys fi e ≡ refused n i → n ≡ 19
+unfolding judgedAs headThen
+judged-number c sys fi e =
     key-number 0 key e _
     (field-number 0 e 16 1 (eqb (getD e 16 0) 0x83) _
     (field-number 0 e 17 3 (eqb (20 + threeIn e 17) (length e)) _
-    (field-number 0 e 20 2 true _ (structures-number sys fi (twoIn e 20) 22 (drop 22 e)))))
+    (field-number 0 e 20 2 true _ (structures-number c sys fi (twoIn e 20) 22 (drop 22 e)))))
     .is

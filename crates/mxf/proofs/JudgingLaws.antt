@@ -38,6 +38,7 @@ use Rattle.mxf.specs.Judging.{
   keyThen,
   headThen,
   judged,
+  judgedAs,
 }
 use Rattle.mxf.specs.Reading.{readOf}
 use Rattle.mxf.specs.Parts.{faultOr, Whole, Passes, counted, addTo, wholeFrom}
@@ -274,7 +275,7 @@ module _ (at : ℕ) (s : List ℕ) (pos : 0 < at) (o : Outcome) where
 
 -- its line, wrapping and coding are right, and its array
 pub passes : (sys last : ℕ) (s : List ℕ) → last ≡ system sys .last → (twoIn s 0 ≡ 0 → ⊥) → twoIn s 0 ≤ last → getD s 2 0 ≡ wrapping sys
-    → (getD s 3 0 ≡ 4) ⊎ (getD s 3 0 ≡ 5) → Whole s → twoIn s 4 ≤ 258 → fourIn s 10 ≡ 1 → Passes sys s
+    → (getD s 3 0 ≡ 4) ⊎ (getD s 3 0 ≡ 5) → Whole eight s → twoIn s 4 ≤ 258 → fourIn s 10 ≡ 1 → Passes sys s
 passes sys last s is some within wrapped coded w most single at o =
     let a = w .there in
     let b = w .room in
@@ -339,9 +340,9 @@ module _ (sys : ℕ) (fi : Bool) (n k at numbers : ℕ) (s : List ℕ) (all : k 
   at-end l = rw (none-left, drop-of-length-le s l, all) (simp add-zero)
 
 -- a structure that passed its tests is there
-module _ (at : ℕ) (s : List ℕ) (w : Whole (take (length s - at) (drop at s))) where
-  whole : Whole (drop at s)
-  whole = subst Whole (rest-part at s) w
+module _ (at : ℕ) (s : List ℕ) (w : Whole eight (take (length s - at) (drop at s))) where
+  whole : Whole eight (drop at s)
+  whole = subst (Whole eight) (rest-part at s) w
 
   pub all-there : at ≤ length s → at + (14 + fourIn s (at + 6)) ≤ length s
   all-there l =
@@ -387,7 +388,7 @@ module _ (sys : ℕ) (fi : Bool) (n k at numbers : ℕ) (s : List ℕ) (h : k < 
     pub at-fault : (f ≡ 0 → ⊥) → readOf 0 (refused 19 f) ≡ wholeFrom sys fi n k at numbers s
     at-fault g = sym (ap (addTo k numbers) (turn ∙ sym (fault 0 f later g)))
 
-    pub at-next : f ≡ 0 → Whole (take (length s - at) (drop at s)) → (two four : ℕ) → two ≡ twoIn s (at + 4) → four ≡ fourIn s (at + 6)
+    pub at-next : f ≡ 0 → Whole eight (take (length s - at) (drop at s)) → (two four : ℕ) → two ≡ twoIn s (at + 4) → four ≡ fourIn s (at + 6)
         → wholeFrom sys fi n (k + 1) (at + (14 + four)) (numbers + (two + 6)) s ≡ wholeFrom sys fi n k at numbers s
     at-next z w two four d e =
         let a : numbers + (2 + bytesOf (packetIn eight sys fi t)) ≡ numbers + (two + 6) =
@@ -408,12 +409,12 @@ module _ (sys : ℕ) (fi : Bool) (e : List ℕ) (f : ℕ) (tested : (o : Outcome
   behind = structures eight sys fi (twoIn e 20) 22 (drop 22 e)
 
   pub head-wrong : f < 22 → readOf 0 (refused 19 f) ≡ readOf sys (judged sys fi e)
-  unfolding judged
+  unfolding judgedAs
   head-wrong l = ap (readOf sys) (fault 22 f behind (λ z. omega arith) ∙ sym (tested behind))
 
   pub from-structures : f ≡ 22 → (n : ℕ) → n ≡ twoIn e 20 → (r : ElementRead)
       → r ≡ readOf sys (structures eight sys fi n 22 (take (length e - 22) (drop 22 e))) → r ≡ readOf sys (judged sys fi e)
-  unfolding judged
+  unfolding judgedAs
   from-structures z n d r g =
       g
       ∙ (λ i. readOf sys (structures eight sys fi (d i) 22 (rest-part 22 e i)))

@@ -32,8 +32,8 @@ use Rattle.sheet.proofs.WriteLaws.{words-after}
 use Rattle.sheet.proofs.Filling.{two-more, part-long, part-more, all-written, threeOf, backOf}
 use Rattle.sheet.proofs.Filling.{sheet-before, sheet-lent, sheet-long, sheet-filled}
 use Rattle.mxf.specs.Served.{fiRead}
-use Rattle.mxf.specs.Element.{eight}
-use Rattle.mxf.specs.Judging.{twoIn, fourIn, sizeIn, packetIn, structures, judged}
+use Rattle.mxf.specs.Element.{Coding, eight, luma}
+use Rattle.mxf.specs.Judging.{twoIn, fourIn, others, arrayFor, sizeIn, dcIn, packetIn, structures, judged, judgedAs}
 use Rattle.mxf.specs.Reading.{lastTests, packetTests, reading, readOf, read, sheetAfter}
 use Rattle.mxf.specs.Demands.{Reads}
 use Rattle.mxf.specs.Parts.{packetsOfStructures, Judged, Sized, Answers}
@@ -44,10 +44,10 @@ use Rattle.mxf.proofs.Inversion.{structures-listed, structures-none, st
 
 -- ---- the structures that are left
 
-module _ (sys : ℕ) (fi : Bool) (n : ℕ) (s : List ℕ) where
+module _ (c : Coding) (sys : ℕ) (fi : Bool) (n : ℕ) (s : List ℕ) where
   -- from place `at` on, where k have been gone through
   abbrev pub leftOf : ℕ → ℕ → Outcome
-  leftOf k at = structures eight sys fi (n - k) (22 + at) (drop at s)
+  leftOf k at = structures c sys fi (n - k) (22 + at) (drop at s)
 
   abbrev pub restOf : ℕ → ℕ → List Packet
   restOf k at = listIn (leftOf k at)
@@ -58,34 +58,34 @@ module _ (sys : ℕ) (fi : Bool) (n : ℕ) (s : List ℕ) where
   none-gone : n ≡ n - 0
   none-gone = omega arith
 
-  pub rest-all : restOf 0 0 ≡ packetsOfStructures sys fi n s
-  rest-all = ap (λ (m : ℕ). listIn (structures eight sys fi m 22 s)) (sym none-gone)
+  pub rest-all : restOf 0 0 ≡ packetsOfStructures c sys fi n s
+  rest-all = ap (λ (m : ℕ). listIn (structures c sys fi m 22 s)) (sym none-gone)
 
-  pub left-all : Judged sys fi n s → Left 0 0
-  left-all j = subst (λ (m : ℕ). structures eight sys fi m 22 s ≡ listed (listIn (structures eight sys fi m 22 s))) none-gone j
+  pub left-all : Judged c sys fi n s → Left 0 0
+  left-all j = subst (λ (m : ℕ). structures c sys fi m 22 s ≡ listed (listIn (structures c sys fi m 22 s))) none-gone j
 
   pub left-none : (k at : ℕ) → Left k at → n ≤ k → restOf k at ≡ []
   left-none k at l h =
       let z : n - k ≡ 0 = omega arith in
-      let e : structures eight sys fi 0 (22 + at) (drop at s) ≡ listed (restOf k at) =
-      ap (λ (m : ℕ). structures eight sys fi m (22 + at) (drop at s)) (sym z) ∙ l in
-      structures-none sys fi (22 + at) (drop at s) (restOf k at) e .1
+      let e : structures c sys fi 0 (22 + at) (drop at s) ≡ listed (restOf k at) =
+      ap (λ (m : ℕ). structures c sys fi m (22 + at) (drop at s)) (sym z) ∙ l in
+      structures-none c sys fi (22 + at) (drop at s) (restOf k at) e .1
 
   -- one of them: what its fields say, by their places in s
   pub record Turn (k at : ℕ) : Type 0 where
-    pub enough : twoIn s (at + 4) ≤ fourIn s (at + 6)
+    pub enough : arrayFor c (twoIn s (at + 4)) ≤ fourIn s (at + 6)
     pub inside : at + 14 + fourIn s (at + 6) ≤ length s
-    pub dc : getD (drop at s) 16 0 + 3 ≡ twoIn s (at + 4)
-    pub front : restOf k at ≡ packetIn eight sys fi (drop at s) ∷ restOf (k + 1) (at + 14 + fourIn s (at + 6))
+    pub dc : dcIn c (drop at s) + others c ≡ twoIn s (at + 4)
+    pub front : restOf k at ≡ packetIn c sys fi (drop at s) ∷ restOf (k + 1) (at + 14 + fourIn s (at + 6))
     pub later : Left (k + 1) (at + 14 + fourIn s (at + 6))
 
   pub turn : (k at : ℕ) → Left k at → k < n → Turn k at
   turn k at l h =
       let t : List ℕ = drop at s in
       let one : n - k ≡ suc (n - (k + 1)) = omega arith in
-      let e : structures eight sys fi (suc (n - (k + 1))) (22 + at) t ≡ listed (restOf k at) =
-      ap (λ (m : ℕ). structures eight sys fi m (22 + at) t) (sym one) ∙ l in
-      let m = structures-listed sys fi (n - (k + 1)) (22 + at) t (restOf k at) e in
+      let e : structures c sys fi (suc (n - (k + 1))) (22 + at) t ≡ listed (restOf k at) =
+      ap (λ (m : ℕ). structures c sys fi m (22 + at) t) (sym one) ∙ l in
+      let m = structures-listed c sys fi (n - (k + 1)) (22 + at) t (restOf k at) e in
       let st = m .structure in
       let long = length-drop at s in
       let a = two-drop at 4 s in
@@ -93,14 +93,14 @@ module _ (sys : ℕ) (fi : Bool) (n : ℕ) (s : List ℕ) where
       let p : 22 + (at + 14 + fourIn s (at + 6)) ≡ 22 + at + sizeIn t = omega arith in
       let q : at + 14 + fourIn s (at + 6) ≡ at + sizeIn t = omega arith in
       let f : leftOf (k + 1) (at + 14 + fourIn s (at + 6)) ≡ listed (m .rest) =
-      ap₂ (λ (i : ℕ) (r : List ℕ). structures eight sys fi (n - (k + 1)) i r) p (ap (λ (i : ℕ). drop i s) q ∙ sym (drop-drop (sizeIn t) at s))
+      ap₂ (λ (i : ℕ) (r : List ℕ). structures c sys fi (n - (k + 1)) i r) p (ap (λ (i : ℕ). drop i s) q ∙ sym (drop-drop (sizeIn t) at s))
       ∙ m .later in
       let g : restOf (k + 1) (at + 14 + fourIn s (at + 6)) ≡ m .rest = ap listIn f in
       record {
-        enough = let x = st .enough in omega arith;
+        enough = subst (λ (m : ℕ). arrayFor c m ≤ fourIn s (at + 6)) a (subst (λ (m : ℕ). arrayFor c (twoIn t 4) ≤ m) b (st .enough));
         inside = let x = st .inside in omega arith;
         dc = st .dc ∙ a;
-        front = m .front ∙ ap (λ (r : List Packet). packetIn eight sys fi t ∷ r) (sym g);
+        front = m .front ∙ ap (λ (r : List Packet). packetIn c sys fi t ∷ r) (sym g);
         later = f ∙ ap listed (sym g);
       }
 
@@ -124,41 +124,41 @@ packet-framed sys fi t n e h =
 -- ---- locations
 
 -- the locations of the packets before `at` are written
-pub record Locating (sys : ℕ) (fi : Bool) (n : ℕ) (s out : List ℕ) (k at : ℕ) : Type 0 where
-  pub left : Left sys fi n s k at
+pub record Locating (c : Coding) (sys : ℕ) (fi : Bool) (n : ℕ) (s out : List ℕ) (k at : ℕ) : Type 0 where
+  pub left : Left c sys fi n s k at
   pub long : length out ≡ 2 * n
-  pub written : take (2 * k) out ++ locations (restOf sys fi n s k at) ≡ locations (packetsOfStructures sys fi n s)
+  pub written : take (2 * k) out ++ locations (restOf c sys fi n s k at) ≡ locations (packetsOfStructures c sys fi n s)
 
-module _ (sys : ℕ) (fi : Bool) (n : ℕ) (s out : List ℕ) where
-  pub locating-none : Judged sys fi n s → length out ≡ 2 * n → Locating sys fi n s out 0 0
-  locating-none j l = record { left = left-all sys fi n s j; long = l; written = ap locations (rest-all sys fi n s) }
+module _ (c : Coding) (sys : ℕ) (fi : Bool) (n : ℕ) (s out : List ℕ) where
+  pub locating-none : Judged c sys fi n s → length out ≡ 2 * n → Locating c sys fi n s out 0 0
+  locating-none j l = record { left = left-all c sys fi n s j; long = l; written = ap locations (rest-all c sys fi n s) }
 
-  pub locating-all : (k at : ℕ) → Locating sys fi n s out k at → n ≤ k → out ≡ locations (packetsOfStructures sys fi n s)
+  pub locating-all : (k at : ℕ) → Locating c sys fi n s out k at → n ≤ k → out ≡ locations (packetsOfStructures c sys fi n s)
   locating-all k at was h =
-      let none = left-none sys fi n s k at (was .left) h in
+      let none = left-none c sys fi n s k at (was .left) h in
       let l = was .long in
-      all-written out (locations (restOf sys fi n s k at)) (locations (packetsOfStructures sys fi n s)) (2 * k) (omega arith) (ap locations none)
+      all-written out (locations (restOf c sys fi n s k at)) (locations (packetsOfStructures c sys fi n s)) (2 * k) (omega arith) (ap locations none)
       (was .written)
 
   -- a turn: line and flags
-  pub locating-more : (k at first line flags count : ℕ) → Locating sys fi n s out k at → k < n → first ≡ fiRead sys fi → line ≡ twoIn s at
-      → flags ≡ first + 2 * cond (eqb (getD s (at + 3) 0) 4) 1 0 → count ≡ fourIn s (at + 6)
-      → Locating sys fi n s (set (set out (2 * k) line) (2 * k + 1) flags) (k + 1) (at + (14 + count))
+  pub locating-more : (k at first line flags count : ℕ) → Locating c sys fi n s out k at → k < n → first ≡ fiRead sys fi → line ≡ twoIn s at
+      → flags ≡ first + 2 * cond (eqb (getD s (at + 3) 0) (luma c)) 1 0 → count ≡ fourIn s (at + 6)
+      → Locating c sys fi n s (set (set out (2 * k) line) (2 * k + 1) flags) (k + 1) (at + (14 + count))
   locating-more k at first line flags count was h q e f g =
-      let t = turn sys fi n s k at (was .left) h in
+      let t = turn c sys fi n s k at (was .left) h in
       let l = was .long in
       let next : at + (14 + count) ≡ at + 14 + fourIn s (at + 6) = omega arith in
-      let qs : List Packet = restOf sys fi n s (k + 1) (at + (14 + count)) in
-      let again : restOf sys fi n s (k + 1) (at + 14 + fourIn s (at + 6)) ≡ qs = ap (restOf sys fi n s (k + 1)) (sym next) in
-      let a : packetIn eight sys fi (drop at s) .line ≡ line = two-drop at 0 s ∙ ap (twoIn s) (add-zero at) ∙ sym e in
-      let b : packetIn eight sys fi (drop at s) .flags ≡ flags =
-      ap₂ (λ (v x : ℕ). v + 2 * cond (eqb x 4) 1 0) (sym q) (getD-drop at s 3 0) ∙ sym f in
-      let m : locations (restOf sys fi n s k at) ≡ line ∷ flags ∷ locations qs =
-      ap locations (t .front ∙ ap (λ (r : List Packet). packetIn eight sys fi (drop at s) ∷ r) again)
+      let qs : List Packet = restOf c sys fi n s (k + 1) (at + (14 + count)) in
+      let again : restOf c sys fi n s (k + 1) (at + 14 + fourIn s (at + 6)) ≡ qs = ap (restOf c sys fi n s (k + 1)) (sym next) in
+      let a : packetIn c sys fi (drop at s) .line ≡ line = two-drop at 0 s ∙ ap (twoIn s) (add-zero at) ∙ sym e in
+      let b : packetIn c sys fi (drop at s) .flags ≡ flags =
+      ap₂ (λ (v x : ℕ). v + 2 * cond (eqb x (luma c)) 1 0) (sym q) (getD-drop at s 3 0) ∙ sym f in
+      let m : locations (restOf c sys fi n s k at) ≡ line ∷ flags ∷ locations qs =
+      ap locations (t .front ∙ ap (λ (r : List Packet). packetIn c sys fi (drop at s) ∷ r) again)
       ∙ ap₂ (λ (x v : ℕ). x ∷ v ∷ locations qs) a b in
       let i : 2 * (k + 1) ≡ 2 * k + 2 = omega arith in
       record {
-        left = subst (Left sys fi n s (k + 1)) (sym next) (t .later);
+        left = subst (Left c sys fi n s (k + 1)) (sym next) (t .later);
         long = simp length-set l;
         written =
             ap (λ (j : ℕ). take j (set (set out (2 * k) line) (2 * k + 1) flags) ++ locations qs) i
@@ -174,69 +174,69 @@ abbrev allowedOf : System → List Packet → ℕ
 allowedOf y ps = inFront (locationAllowed y) (locations ps)
 
 -- the lines of the packets before `at` are allowed
-pub record Allowing (sys : ℕ) (fi : Bool) (n : ℕ) (s : List ℕ) (last k at : ℕ) : Type 0 where
-  pub left : Left sys fi n s k at
+pub record Allowing (c : Coding) (sys : ℕ) (fi : Bool) (n : ℕ) (s : List ℕ) (last k at : ℕ) : Type 0 where
+  pub left : Left c sys fi n s k at
   pub few : k ≤ n
-  pub allowed : (y : System) → y .last ≡ last → k + allowedOf y (restOf sys fi n s k at) ≡ allowedOf y (packetsOfStructures sys fi n s)
+  pub allowed : (y : System) → y .last ≡ last → k + allowedOf y (restOf c sys fi n s k at) ≡ allowedOf y (packetsOfStructures c sys fi n s)
 
-module _ (sys : ℕ) (fi : Bool) (n : ℕ) (s : List ℕ) (last : ℕ) where
-  pub allowing-none : Judged sys fi n s → Allowing sys fi n s last 0 0
+module _ (c : Coding) (sys : ℕ) (fi : Bool) (n : ℕ) (s : List ℕ) (last : ℕ) where
+  pub allowing-none : Judged c sys fi n s → Allowing c sys fi n s last 0 0
   allowing-none j =
-      record { left = left-all sys fi n s j; few = omega arith; allowed = λ y e. zero-add _ ∙ ap (allowedOf y) (rest-all sys fi n s) }
+      record { left = left-all c sys fi n s j; few = omega arith; allowed = λ y e. zero-add _ ∙ ap (allowedOf y) (rest-all c sys fi n s) }
 
-  pub allowing-all : (k at : ℕ) → Allowing sys fi n s last k at → n ≤ k → (y : System) → y .last ≡ last
-      → k ≡ allowedOf y (packetsOfStructures sys fi n s)
+  pub allowing-all : (k at : ℕ) → Allowing c sys fi n s last k at → n ≤ k → (y : System) → y .last ≡ last
+      → k ≡ allowedOf y (packetsOfStructures c sys fi n s)
   allowing-all k at was h y e =
-      let z : allowedOf y (restOf sys fi n s k at) ≡ 0 = ap (allowedOf y) (left-none sys fi n s k at (was .left) h) in
+      let z : allowedOf y (restOf c sys fi n s k at) ≡ 0 = ap (allowedOf y) (left-none c sys fi n s k at (was .left) h) in
       sym (add-zero k) ∙ ap (λ (m : ℕ). k + m) (sym z) ∙ was .allowed y e
 
   -- a turn: the line
-  module _ (k at line : ℕ) (was : Allowing sys fi n s last k at) (h : k < n) (q : line ≡ twoIn s at) where
+  module _ (k at line : ℕ) (was : Allowing c sys fi n s last k at) (h : k < n) (q : line ≡ twoIn s at) where
     abbrev behind : List Packet
-    behind = restOf sys fi n s (k + 1) (at + 14 + fourIn s (at + 6))
+    behind = restOf c sys fi n s (k + 1) (at + 14 + fourIn s (at + 6))
 
-    front : (y : System) → allowedOf y (restOf sys fi n s k at) ≡ cond (allowed y line) (suc (allowedOf y behind)) 0
+    front : (y : System) → allowedOf y (restOf c sys fi n s k at) ≡ cond (allowed y line) (suc (allowedOf y behind)) 0
     front y =
-        let a : packetIn eight sys fi (drop at s) .line ≡ line = two-drop at 0 s ∙ ap (twoIn s) (add-zero at) ∙ sym q in
-        ap (allowedOf y) (turn sys fi n s k at (was .left) h .front) ∙ ap (λ (m : ℕ). cond (allowed y m) (suc (allowedOf y behind)) 0) a
+        let a : packetIn c sys fi (drop at s) .line ≡ line = two-drop at 0 s ∙ ap (twoIn s) (add-zero at) ∙ sym q in
+        ap (allowedOf y) (turn c sys fi n s k at (was .left) h .front) ∙ ap (λ (m : ℕ). cond (allowed y m) (suc (allowedOf y behind)) 0) a
 
-    pub allowing-stop : (y : System) → y .last ≡ last → allowed y line ≡ false → k ≡ allowedOf y (packetsOfStructures sys fi n s)
-    allowing-stop y e f = let z : allowedOf y (restOf sys fi n s k at) ≡ 0 = front y ∙ rw f in let w = was .allowed y e in omega arith
+    pub allowing-stop : (y : System) → y .last ≡ last → allowed y line ≡ false → k ≡ allowedOf y (packetsOfStructures c sys fi n s)
+    allowing-stop y e f = let z : allowedOf y (restOf c sys fi n s k at) ≡ 0 = front y ∙ rw f in let w = was .allowed y e in omega arith
 
     pub allowing-more : ((y : System) → y .last ≡ last → allowed y line ≡ true) → (count : ℕ) → count ≡ fourIn s (at + 6)
-        → Allowing sys fi n s last (k + 1) (at + (14 + count))
+        → Allowing c sys fi n s last (k + 1) (at + (14 + count))
     allowing-more f count g =
         let next : at + (14 + count) ≡ at + 14 + fourIn s (at + 6) = omega arith in
         record {
-          left = subst (Left sys fi n s (k + 1)) (sym next) (turn sys fi n s k at (was .left) h .later);
+          left = subst (Left c sys fi n s (k + 1)) (sym next) (turn c sys fi n s k at (was .left) h .later);
           few = omega arith;
           allowed = λ y e.
-              let z : allowedOf y (restOf sys fi n s k at) ≡ suc (allowedOf y behind) = front y ∙ rw (f y e) in
+              let z : allowedOf y (restOf c sys fi n s k at) ≡ suc (allowedOf y behind) = front y ∙ rw (f y e) in
               let w = was .allowed y e in
-              ap (λ (i : ℕ). k + 1 + allowedOf y (restOf sys fi n s (k + 1) i)) next ∙ (omega arith);
+              ap (λ (i : ℕ). k + 1 + allowedOf y (restOf c sys fi n s (k + 1) i)) next ∙ (omega arith);
         }
 
 -- ---- the words of packets
 
 -- the words of the packets before `at` are written, o of them
 pub record Wording (sys : ℕ) (fi : Bool) (n : ℕ) (s out : List ℕ) (k at o : ℕ) : Type 0 where
-  pub left : Left sys fi n s k at
-  pub room : o + length (allWords (restOf sys fi n s k at)) ≡ length out
-  pub written : take o out ++ allWords (restOf sys fi n s k at) ≡ allWords (packetsOfStructures sys fi n s)
+  pub left : Left eight sys fi n s k at
+  pub room : o + length (allWords (restOf eight sys fi n s k at)) ≡ length out
+  pub written : take o out ++ allWords (restOf eight sys fi n s k at) ≡ allWords (packetsOfStructures eight sys fi n s)
 
 module _ (sys : ℕ) (fi : Bool) (n : ℕ) (s out : List ℕ) where
-  pub wording-none : Judged sys fi n s → length out ≡ length (allWords (packetsOfStructures sys fi n s)) → Wording sys fi n s out 0 0 0
+  pub wording-none : Judged eight sys fi n s → length out ≡ length (allWords (packetsOfStructures eight sys fi n s)) → Wording sys fi n s out 0 0 0
   wording-none j l =
-      let e : allWords (restOf sys fi n s 0 0) ≡ allWords (packetsOfStructures sys fi n s) = ap allWords (rest-all sys fi n s) in
-      let z : length (allWords (restOf sys fi n s 0 0)) ≡ length out = ap length e ∙ sym l in
-      record { left = left-all sys fi n s j; room = omega arith; written = e }
+      let e : allWords (restOf eight sys fi n s 0 0) ≡ allWords (packetsOfStructures eight sys fi n s) = ap allWords (rest-all eight sys fi n s) in
+      let z : length (allWords (restOf eight sys fi n s 0 0)) ≡ length out = ap length e ∙ sym l in
+      record { left = left-all eight sys fi n s j; room = omega arith; written = e }
 
-  pub wording-all : (k at o : ℕ) → Wording sys fi n s out k at o → n ≤ k → out ≡ allWords (packetsOfStructures sys fi n s)
+  pub wording-all : (k at o : ℕ) → Wording sys fi n s out k at o → n ≤ k → out ≡ allWords (packetsOfStructures eight sys fi n s)
   wording-all k at o was h =
-      let none = left-none sys fi n s k at (was .left) h in
-      let z : length (allWords (restOf sys fi n s k at)) ≡ 0 = ap (λ (r : List Packet). length (allWords r)) none in
+      let none = left-none eight sys fi n s k at (was .left) h in
+      let z : length (allWords (restOf eight sys fi n s k at)) ≡ 0 = ap (λ (r : List Packet). length (allWords r)) none in
       let l = was .room in
-      all-written out (allWords (restOf sys fi n s k at)) (allWords (packetsOfStructures sys fi n s)) o (omega arith) (ap allWords none)
+      all-written out (allWords (restOf eight sys fi n s k at)) (allWords (packetsOfStructures eight sys fi n s)) o (omega arith) (ap allWords none)
       (was .written)
 
   -- a turn
@@ -248,10 +248,10 @@ module _ (sys : ℕ) (fi : Bool) (n : ℕ) (s out : List ℕ) where
     samples = twoIn s (at + 4)
 
     abbrev qs : List Packet
-    qs = restOf sys fi n s (k + 1) (at + 14 + count)
+    qs = restOf eight sys fi n s (k + 1) (at + 14 + count)
 
-    step : Turn sys fi n s k at
-    step = turn sys fi n s k at (was .left) h
+    step : Turn eight sys fi n s k at
+    step = turn eight sys fi n s k at (was .left) h
 
     packet-is : words (packetIn eight sys fi (drop at s)) ≡ framed (map word (take samples (drop (at + 14) s)))
     packet-is =
@@ -274,7 +274,7 @@ module _ (sys : ℕ) (fi : Bool) (n : ℕ) (s out : List ℕ) where
     pub wording-room : o + samples + 4 ≤ length out
     wording-room =
         let l = was .room in
-        let a : length (allWords (restOf sys fi n s k at)) ≡ length (words (packetIn eight sys fi (drop at s)) ++ allWords qs) =
+        let a : length (allWords (restOf eight sys fi n s k at)) ≡ length (words (packetIn eight sys fi (drop at s)) ++ allWords qs) =
         ap (λ (r : List Packet). length (allWords r)) (step .front) in
         let b = length-append (words (packetIn eight sys fi (drop at s))) (allWords qs) in
         let c = packet-long in
@@ -307,7 +307,7 @@ module _ (sys : ℕ) (fi : Bool) (n : ℕ) (s out : List ℕ) where
         after = take o out ++ (ys ++ drop (o + sr + 4 - o) (drop o out))
 
         abbrev later : List Packet
-        later = restOf sys fi n s (k + 1) (at + 14 + cr)
+        later = restOf eight sys fi n s (k + 1) (at + 14 + cr)
 
         ys-are : ys ≡ words (packetIn eight sys fi (drop at s))
         ys-are =
@@ -328,12 +328,12 @@ module _ (sys : ℕ) (fi : Bool) (n : ℕ) (s out : List ℕ) where
             let w = was .room in
             let l = ys-long in
             let next : at + 14 + count ≡ at + 14 + cr = omega arith in
-            let rest : allWords (restOf sys fi n s k at) ≡ ys ++ allWords later =
-            ap allWords (step .front) ∙ ap₂ (λ (v : List ℕ) (i : ℕ). v ++ allWords (restOf sys fi n s (k + 1) i)) (sym ys-are) next in
-            let both : length (allWords (restOf sys fi n s k at)) ≡ length (ys ++ allWords later) = ap length rest in
+            let rest : allWords (restOf eight sys fi n s k at) ≡ ys ++ allWords later =
+            ap allWords (step .front) ∙ ap₂ (λ (v : List ℕ) (i : ℕ). v ++ allWords (restOf eight sys fi n s (k + 1) i)) (sym ys-are) next in
+            let both : length (allWords (restOf eight sys fi n s k at)) ≡ length (ys ++ allWords later) = ap length rest in
             let sum = length-append ys (allWords later) in
             record {
-              left = subst (Left sys fi n s (k + 1)) next (step .later);
+              left = subst (Left eight sys fi n s (k + 1)) next (step .later);
               room = sym (wording-long ∙ (omega arith));
               written =
                   part-more out ys o (o + sr + 4) (omega arith) (omega arith) l (allWords later)
@@ -343,15 +343,15 @@ module _ (sys : ℕ) (fi : Bool) (n : ℕ) (s out : List ℕ) where
 
 -- ---- the sections
 
-module _ (sys : ℕ) (fi : Bool) (packets : ℕ) (s out : List ℕ) (m : Sized sys fi packets s out) where
+module _ (c : Coding) (sys : ℕ) (fi : Bool) (packets : ℕ) (s out : List ℕ) (m : Sized c sys fi packets s out) where
   abbrev ps : List Packet
-  ps = packetsOfStructures sys fi packets s
+  ps = packetsOfStructures c sys fi packets s
 
   abbrev mid : ℕ
   mid = 3 + 2 * packets
 
   count-is : packets ≡ length ps
-  count-is = sym (structures-count sys fi packets 22 s ps (m .judged))
+  count-is = sym (structures-count c sys fi packets 22 s ps (m .judged))
 
   pub sections-room : length out ≡ 4 + 2 * packets + length (allWords ps)
   sections-room =
@@ -397,10 +397,10 @@ module _ (sys : ℕ) (fi : Bool) (packets : ℕ) (s out : List ℕ) (m : Sized s
 
 -- ---- the answer
 
-module _ (sys : ℕ) (fi : Bool) (e sheet : List ℕ) (j : ElementRead) (h : j ≡ readOf sys (judged sys fi e)) where
+module _ (c : Coding) (sys : ℕ) (fi : Bool) (e sheet : List ℕ) (j : ElementRead) (h : j ≡ readOf sys (judgedAs c sys fi e)) where
   -- 19 is given back as it is
-  pub refused-before : (j .number ≡ 0 → ⊥) → Answers sys sheet (andThen (judged sys fi e) (packetTests sys (length sheet))) j sheet
-  refused-before n = go (judged sys fi e) h
+  pub refused-before : (j .number ≡ 0 → ⊥) → Answers sys sheet (andThen (judgedAs c sys fi e) (packetTests sys (length sheet))) j sheet
+  refused-before n = go (judgedAs c sys fi e) h
     where
       go : (o : Outcome) → j ≡ readOf sys o → Answers sys sheet (andThen o (packetTests sys (length sheet))) j sheet
       go (listed qs) q = absurd (n (ap (λ (r : ElementRead). r .number) q))
@@ -408,21 +408,21 @@ module _ (sys : ℕ) (fi : Bool) (e sheet : List ℕ) (j : ElementRead) (h : j �
 
   module _ (z : j .number ≡ 0) where
     abbrev found : List Packet
-    found = listIn (judged sys fi e)
+    found = listIn (judgedAs c sys fi e)
 
-    found-is : judged sys fi e ≡ listed found
-    found-is = go (judged sys fi e) refl
+    found-is : judgedAs c sys fi e ≡ listed found
+    found-is = go (judgedAs c sys fi e) refl
       where
-        go : (o : Outcome) → judged sys fi e ≡ o → o ≡ listed (listIn o)
+        go : (o : Outcome) → judgedAs c sys fi e ≡ o → o ≡ listed (listIn o)
         go (listed qs) q = refl
         go (refused m i) q =
             let a : j .number ≡ m = ap (λ (r : ElementRead). r .number) (h ∙ ap (readOf sys) q) in
-            let b = judged-number sys fi e m i q in
+            let b = judged-number c sys fi e m i q in
             absurd (omega arith)
 
     -- key, length and N are there
     pub head-there : 22 ≤ length e
-    head-there = judged-listed sys fi e found found-is .head .counted
+    head-there = judged-listed c sys fi e found found-is .head .counted
 
     answer-is : j ≡ readOf sys (listed found)
     answer-is = h ∙ ap (readOf sys) found-is
@@ -442,20 +442,20 @@ module _ (sys : ℕ) (fi : Bool) (e sheet : List ℕ) (j : ElementRead) (h : j �
     abbrev structs : List ℕ
     structs = take (length e - 22) (drop 22 e)
 
-    structs-judged : structures eight sys fi (j .packets) 22 structs ≡ listed found
+    structs-judged : structures c sys fi (j .packets) 22 structs ≡ listed found
     structs-judged =
-        let d = judged-listed sys fi e found found-is .later in
-        let c : j .packets ≡ twoIn e 20 = packets-are ∙ structures-count sys fi (twoIn e 20) 22 (drop 22 e) found d in
+        let d = judged-listed c sys fi e found found-is .later in
+        let m : j .packets ≡ twoIn e 20 = packets-are ∙ structures-count c sys fi (twoIn e 20) 22 (drop 22 e) found d in
         let l = length-drop 22 e in
-        ap (structures eight sys fi (j .packets) 22) (take-all (length e - 22) (drop 22 e) (omega arith))
-        ∙ ap (λ (m : ℕ). structures eight sys fi m 22 (drop 22 e)) c
+        ap (structures c sys fi (j .packets) 22) (take-all (length e - 22) (drop 22 e) (omega arith))
+        ∙ ap (λ (k : ℕ). structures c sys fi k 22 (drop 22 e)) m
         ∙ d
 
-    pub structs-are : Judged sys fi (j .packets) structs
+    pub structs-are : Judged c sys fi (j .packets) structs
     structs-are = structs-judged ∙ ap listed (sym (ap listIn structs-judged))
 
     -- how many packets in front of the first whose line is not allowed, by the structures that are lent
-    module _ (k : ℕ) (a : k ≡ allowedOf (system sys) (packetsOfStructures sys fi (j .packets) structs)) where
+    module _ (k : ℕ) (a : k ≡ allowedOf (system sys) (packetsOfStructures c sys fi (j .packets) structs)) where
       in-front : k ≡ allowedOf (system sys) found
       in-front = a ∙ ap (λ (o : Outcome). allowedOf (system sys) (listIn o)) structs-judged
 
@@ -467,34 +467,34 @@ module _ (sys : ℕ) (fi : Bool) (e sheet : List ℕ) (j : ElementRead) (h : j �
 
       -- 20
       pub not-allowed : (k ≡ j .packets → ⊥) → (r : ElementRead) → r ≡ readOf 0 (refused 20 k)
-          → Answers sys sheet (andThen (judged sys fi e) (packetTests sys (length sheet))) r sheet
+          → Answers sys sheet (andThen (judgedAs c sys fi e) (packetTests sys (length sheet))) r sheet
       not-allowed n r q =
-          let p : refused 20 k ≡ andThen (judged sys fi e) (packetTests sys (length sheet)) =
+          let p : refused 20 k ≡ andThen (judgedAs c sys fi e) (packetTests sys (length sheet)) =
           sym (ap (λ (o : Outcome). andThen o (packetTests sys (length sheet))) found-is ∙ lines-are ∙ rw (ne-eqb k (j .packets) n)) in
           record { answer = q ∙ ap (readOf sys) p; buffer = ap (bufferOf sys sheet) p }
 
       -- every line is allowed
       pub all-allowed : k ≡ j .packets → (r : ElementRead) (after : List ℕ)
-          → Answers sys sheet (andThen (judged sys fi e) (lastTests sys (length sheet))) r after
-          → Answers sys sheet (andThen (judged sys fi e) (packetTests sys (length sheet))) r after
+          → Answers sys sheet (andThen (judgedAs c sys fi e) (lastTests sys (length sheet))) r after
+          → Answers sys sheet (andThen (judgedAs c sys fi e) (packetTests sys (length sheet))) r after
       all-allowed n r after w =
-          let p : andThen (judged sys fi e) (lastTests sys (length sheet)) ≡ andThen (judged sys fi e) (packetTests sys (length sheet)) =
+          let p : andThen (judgedAs c sys fi e) (lastTests sys (length sheet)) ≡ andThen (judgedAs c sys fi e) (packetTests sys (length sheet)) =
           ap (λ (o : Outcome). andThen o (lastTests sys (length sheet))) found-is
           ∙ sym (ap (λ (o : Outcome). andThen o (packetTests sys (length sheet))) found-is ∙ lines-are ∙ rw (eq-eqb k (j .packets) n)) in
           subst (λ (o : Outcome). Answers sys sheet o r after) p w
 
-    tests-are : andThen (judged sys fi e) (lastTests sys (length sheet)) ≡ lastTests sys (length sheet) found
+    tests-are : andThen (judgedAs c sys fi e) (lastTests sys (length sheet)) ≡ lastTests sys (length sheet) found
     tests-are = ap (λ (o : Outcome). andThen o (lastTests sys (length sheet))) found-is
 
     given : (o : Outcome) → lastTests sys (length sheet) found ≡ o → (r : ElementRead) (after : List ℕ) → r ≡ readOf sys o
-        → after ≡ bufferOf sys sheet o → Answers sys sheet (andThen (judged sys fi e) (lastTests sys (length sheet))) r after
+        → after ≡ bufferOf sys sheet o → Answers sys sheet (andThen (judgedAs c sys fi e) (lastTests sys (length sheet))) r after
     given o q r after a b =
         let p = sym (tests-are ∙ q) in
         record { answer = a ∙ ap (readOf sys) p; buffer = b ∙ ap (bufferOf sys sheet) p }
 
     -- 5
     pub too-many : limit < j .packets → (r : ElementRead) → r ≡ readOf 0 (refused 5 limit)
-        → Answers sys sheet (andThen (judged sys fi e) (lastTests sys (length sheet))) r sheet
+        → Answers sys sheet (andThen (judgedAs c sys fi e) (lastTests sys (length sheet))) r sheet
     too-many m r q =
         let a = packets-are in
         given (refused 5 limit) (rw (lt-leb (length found) limit (omega arith))) r sheet q refl
@@ -505,7 +505,7 @@ module _ (sys : ℕ) (fi : Bool) (e sheet : List ℕ) (j : ElementRead) (h : j �
 
       -- 17
       pub no-room : (65535 < j .numbers - 4 - 2 * j .packets) ⊎ (length sheet < j .numbers) → (r : ElementRead)
-          → r ≡ readOf 0 (refused 17 0) → Answers sys sheet (andThen (judged sys fi e) (lastTests sys (length sheet))) r sheet
+          → r ≡ readOf 0 (refused 17 0) → Answers sys sheet (andThen (judgedAs c sys fi e) (lastTests sys (length sheet))) r sheet
       no-room m r q = given (refused 17 0) (rw few-found (ap (λ (b : Bool). unless 17 b (listed found)) (full m))) r sheet q refl
         where
           full : (65535 < j .numbers - 4 - 2 * j .packets) ⊎ (length sheet < j .numbers) → hasRoom sys (length sheet) found ≡ false
@@ -518,11 +518,11 @@ module _ (sys : ℕ) (fi : Bool) (e sheet : List ℕ) (j : ElementRead) (h : j �
               second-false (leb (length (allWords found)) 65535) _ (lt-leb (length (sheetOf sys found)) (length sheet) (omega arith))
 
       module _ (short : j .numbers - 4 - 2 * j .packets ≤ 65535) (long : j .numbers ≤ length sheet) where
-        pub sized : (out : List ℕ) → sys ≤ 3 → length out ≡ j .numbers → Sized sys fi (j .packets) structs out
+        pub sized : (out : List ℕ) → sys ≤ 3 → length out ≡ j .numbers → Sized c sys fi (j .packets) structs out
         sized out k l =
             let a = packets-are in
             let b = numbers-are in
-            let g : packetsOfStructures sys fi (j .packets) structs ≡ found = ap listIn structs-judged in
+            let g : packetsOfStructures c sys fi (j .packets) structs ≡ found = ap listIn structs-judged in
             let n : length (allWords found) < 65536 = omega arith in
             record {
               known = k;
@@ -532,13 +532,13 @@ module _ (sys : ℕ) (fi : Bool) (e sheet : List ℕ) (j : ElementRead) (h : j �
               room = l ∙ sym (ap (λ (r : List Packet). length (sheetOf sys r)) g ∙ numbers-sheet);
             }
 
-        pub all-read : (ys : List ℕ) → ys ≡ sheetOf sys (packetsOfStructures sys fi (j .packets) structs)
-            → Answers sys sheet (andThen (judged sys fi e) (lastTests sys (length sheet))) j (ys ++ drop (j .numbers) sheet)
+        pub all-read : (ys : List ℕ) → ys ≡ sheetOf sys (packetsOfStructures c sys fi (j .packets) structs)
+            → Answers sys sheet (andThen (judgedAs c sys fi e) (lastTests sys (length sheet))) j (ys ++ drop (j .numbers) sheet)
         all-read ys q =
             let a = packets-are in
             let b = numbers-are in
             let s = numbers-sheet in
-            let g : packetsOfStructures sys fi (j .packets) structs ≡ found = ap listIn structs-judged in
+            let g : packetsOfStructures c sys fi (j .packets) structs ≡ found = ap listIn structs-judged in
             let room : hasRoom sys (length sheet) found ≡ true =
             rw (le-leb (length (allWords found)) 65535 (omega arith), le-leb (length (sheetOf sys found)) (length sheet) (omega arith)) in
             given (listed found) (rw few-found (ap (λ (b : Bool). unless 17 b (listed found)) room)) j (ys ++ drop (j .numbers) sheet) answer-is

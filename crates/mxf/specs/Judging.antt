@@ -146,9 +146,9 @@ headThen e o =
     o)))
 
 -- the packets of an element, or 19
-abbrev pub judgedAs : Coding → ℕ → Bool → List ℕ → Outcome
+unfoldable pub judgedAs : Coding → ℕ → Bool → List ℕ → Outcome
 judgedAs c sys fi e = headThen e (structures c sys fi (twoIn e 20) 22 (drop 22 e))
 
 -- "Coding is 8-bit"
-unfoldable pub judged : ℕ → Bool → List ℕ → Outcome
+abbrev pub judged : ℕ → Bool → List ℕ → Outcome
 judged sys fi e = judgedAs eight sys fi e

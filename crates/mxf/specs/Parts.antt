@@ -15,8 +15,8 @@ use Rattle.rules.specs.Sheet.{limit, allWords, sheetOf}
 use Rattle.rules.specs.Numbers.{Outcome, listed, refused}
 use Rattle.rules.specs.Reading.{bufferOf}
 use Rattle.sheet.specs.Write.{listIn}
-use Rattle.mxf.specs.Element.{eight}
-use Rattle.mxf.specs.Judging.{twoIn, fourIn, sizeIn, frontThen, arrayThen, structures}
+use Rattle.mxf.specs.Element.{Coding, eight, luma as lumaOf}
+use Rattle.mxf.specs.Judging.{twoIn, fourIn, others, arrayFor, sizeIn, dcIn, frontThen, arrayThen, structures}
 use Rattle.mxf.specs.Reading.{readOf}
 use Rattle.mxf.specs.declared.ElementRead.{ElementRead}
 
@@ -29,10 +29,10 @@ faultOr none place o = cond (eqb place none) o (refused 19 place)
 -- ---- a structure
 
 -- the array of a structure is there, the samples are in it, and as many as DC says
-pub record Whole (s : List ℕ) : Type 0 where
+pub record Whole (c : Coding) (s : List ℕ) : Type 0 where
   pub there : sizeIn s ≤ length s
-  pub room : twoIn s 4 ≤ fourIn s 6
-  pub dc : getD s 16 0 + 3 ≡ twoIn s 4
+  pub room : arrayFor c (twoIn s 4) ≤ fourIn s 6
+  pub dc : dcIn c s + others c ≡ twoIn s 4
 
 -- none of its fields is at fault, wherever it starts: what follows decides
 abbrev pub Passes : ℕ → List ℕ → Type 0
@@ -63,34 +63,41 @@ pub record Begun (sys last n : ℕ) (s : List ℕ) (k at numbers : ℕ) : Type 0
 -- ---- the packets of structures
 
 -- the packets of n structures that have been judged
-abbrev pub packetsOfStructures : ℕ → Bool → ℕ → List ℕ → List Packet
-packetsOfStructures sys fi n s = listIn (structures eight sys fi n 22 s)
+abbrev pub packetsOfStructures : Coding → ℕ → Bool → ℕ → List ℕ → List Packet
+packetsOfStructures c sys fi n s = listIn (structures c sys fi n 22 s)
 
 -- no structure is at fault, and nothing follows the last
-abbrev pub Judged : ℕ → Bool → ℕ → List ℕ → Type 0
-Judged sys fi n s = structures eight sys fi n 22 s ≡ listed (packetsOfStructures sys fi n s)
+abbrev pub Judged : Coding → ℕ → Bool → ℕ → List ℕ → Type 0
+Judged c sys fi n s = structures c sys fi n 22 s ≡ listed (packetsOfStructures c sys fi n s)
 
--- n structures that have been judged for some system and FI: of these their lines say nothing
+-- n structures that have been judged for some coding, system and FI: of these their lines say nothing
 pub record Found (n : ℕ) (s : List ℕ) : Type 0 where
+  pub coding : Coding
   pub sys : ℕ
   pub fi : Bool
-  pub judged : Judged sys fi n s
+  pub judged : Judged coding sys fi n s
+
+-- n structures that have been judged for the coding with these luma samples
+pub record Coded (luma sys : ℕ) (fi : Bool) (n : ℕ) (s : List ℕ) : Type 0 where
+  pub coding : Coding
+  pub is : luma ≡ lumaOf coding
+  pub judged : Judged coding sys fi n s
 
 -- n structures that have been judged for some system and FI, and as many numbers to write as their packets have words: of system and FI
 -- the words say nothing
-pub record Shown (n : ℕ) (s out : List ℕ) : Type 0 where
+pub record Shown (c : Coding) (n : ℕ) (s out : List ℕ) : Type 0 where
   pub sys : ℕ
   pub fi : Bool
-  pub judged : Judged sys fi n s
-  pub room : length out ≡ length (allWords (packetsOfStructures sys fi n s))
+  pub judged : Judged c sys fi n s
+  pub room : length out ≡ length (allWords (packetsOfStructures c sys fi n s))
 
 -- n structures that have been judged, and as many numbers to write as their sheet has; each count in it is a 16-bit number
-pub record Sized (sys : ℕ) (fi : Bool) (n : ℕ) (s out : List ℕ) : Type 0 where
+pub record Sized (c : Coding) (sys : ℕ) (fi : Bool) (n : ℕ) (s out : List ℕ) : Type 0 where
   pub known : sys ≤ 3
-  pub judged : Judged sys fi n s
+  pub judged : Judged c sys fi n s
   pub few : n ≤ limit
-  pub short : length (allWords (packetsOfStructures sys fi n s)) < 65536
-  pub room : length out ≡ length (sheetOf sys (packetsOfStructures sys fi n s))
+  pub short : length (allWords (packetsOfStructures c sys fi n s)) < 65536
+  pub room : length out ≡ length (sheetOf sys (packetsOfStructures c sys fi n s))
 
 -- ---- the answer of reading
 

@@ -26,9 +26,12 @@ lastTests sys room ps = cond (leb (length ps) limit) (unless 17 (hasRoom sys roo
 abbrev pub packetTests : ℕ → ℕ → List Packet → Outcome
 packetTests sys room ps = unlessAt 20 (locationAllowed (system sys)) 0 (locations ps) (lastTests sys room ps)
 
--- `room` is how many numbers the sheet buffer holds
+-- 3, then what judging has given, then these. `room` is how many numbers the sheet buffer holds
+abbrev pub readingOf : ℕ → Outcome → ℕ → Outcome
+readingOf sys o room = unless 3 (known sys) (andThen o (packetTests sys room))
+
 unfoldable pub reading : ℕ → Bool → List ℕ → ℕ → Outcome
-reading sys fi e room = unless 3 (known sys) (andThen (judged sys fi e) (packetTests sys room))
+reading sys fi e room = readingOf sys (judged sys fi e) room
 
 -- number, place, packets, sheet numbers; on refusal the later figures are 0
 abbrev pub readOf : ℕ → Outcome → ElementRead

@@ -24,18 +24,24 @@ lined sys fi i (p ∷ ps) o = cond (serves sys fi (p .flags) && eqb (p .line) 0)
 abbrev pub export : ℕ → Bool → List Packet → Outcome
 export sys fi ps = lined sys fi 0 ps (listed (served sys fi ps))
 
--- 17, the element is longer than its buffer
+-- 17, the element is longer than its buffer. `make` gives the element of a list
+abbrev pub withRoomFor : (List Packet → List ℕ) → ℕ → Outcome → Outcome
+withRoomFor make room o = andThen o (λ (ps : List Packet). unless 17 (leb (length (make ps)) room) (listed ps))
+
 abbrev pub withRoom : ℕ → ℕ → Outcome → Outcome
-withRoom sys room o = andThen o (λ (ps : List Packet). unless 17 (leb (length (elementOf sys ps)) room) (listed ps))
+withRoom sys room o = withRoomFor (elementOf sys) room o
 
 -- "the lister's, 18, .. 17 .. in these orders". `room` is how many bytes the element buffer holds
 unfoldable pub writing : Bool → List ℕ → ℕ → Outcome
 writing fi s room = withRoom (systemIn s) room (andThen (sheetTests s) (export (systemIn s) fi))
 
 -- number, place, packets served, element bytes; on refusal the later figures are 0
+abbrev pub writtenBy : (List Packet → List ℕ) → Outcome → ElementWritten
+writtenBy make (listed ps) = record { number = 0; place = 0; word = 0; packets = length ps; bytes = length (make ps) }
+writtenBy make (refused n i) = record { number = n; place = i; word = 0; packets = 0; bytes = 0 }
+
 abbrev pub writtenOf : ℕ → Outcome → ElementWritten
-writtenOf sys (listed ps) = record { number = 0; place = 0; word = 0; packets = length ps; bytes = length (elementOf sys ps) }
-writtenOf sys (refused n i) = record { number = n; place = i; word = 0; packets = 0; bytes = 0 }
+writtenOf sys o = writtenBy (elementOf sys) o
 
 -- the word after the place, as laying and the lister pass it on (A2)
 abbrev pub writtenWith : ℕ → ElementWritten → ElementWritten
@@ -46,9 +52,12 @@ abbrev pub writtenIn : ℕ → List ℕ → Outcome → ElementWritten
 writtenIn sys ws o = writtenWith (wordIn ws o) (writtenOf sys o)
 
 -- "target unchanged" on a refusal; past the element it is unchanged on success
+abbrev pub laidBy : (List Packet → List ℕ) → List ℕ → Outcome → List ℕ
+laidBy make buffer (listed ps) = make ps ++ drop (length (make ps)) buffer
+laidBy make buffer (refused n i) = buffer
+
 abbrev pub elementIn : ℕ → List ℕ → Outcome → List ℕ
-elementIn sys buffer (listed ps) = elementOf sys ps ++ drop (length (elementOf sys ps)) buffer
-elementIn sys buffer (refused n i) = buffer
+elementIn sys buffer o = laidBy (elementOf sys) buffer o
 
 -- what writing gives back, and the element buffer afterwards
 unfoldable pub write : Bool → List ℕ → List ℕ → ElementWritten

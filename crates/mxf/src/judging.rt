@@ -121,7 +121,7 @@ fn front_fault(system: u64, last: Line, at: usize, s: &[u8]) -> usize
 // The count is of 32 bits and says nothing of the bytes that are there: it is compared with those left, so that no sum can wrap.
 fn array_fault(at: usize, s: &[u8]) -> usize
     requires { ⌜ (0 < at) × (at + length (now s) < 4294967296) ⌝ }
-    ensures { λ r. ⌜ ((o : Outcome) → arrayThen eight at (now (s .entry)) o ≡ faultOr 0 r o) × (r ≡ 0 → Whole (now (s .entry))) ⌝ }
+    ensures { λ r. ⌜ ((o : Outcome) → arrayThen eight at (now (s .entry)) o ≡ faultOr 0 r o) × (r ≡ 0 → Whole eight (now (s .entry))) ⌝ }
 {
     let missing = at + s.len();
     if s.len() < 6 {
@@ -152,7 +152,7 @@ fn structure_fault(system: u64, last: Line, at: usize, s: &[u8]) -> usize
     requires { ⌜ (0 < at) × (at + length (now s) < 4294967296) ⌝ }
     ensures { λ r. ⌜ (last .0 ≡ systemOf system .last
         → (o : Outcome) → frontThen eight system at (now (s .entry)) (arrayThen eight at (now (s .entry)) o) ≡ faultOr 0 r o)
-        × (r ≡ 0 → Whole (now (s .entry))) ⌝ }
+        × (r ≡ 0 → Whole eight (now (s .entry))) ⌝ }
 {
     let front = front_fault(system, last, at, s);
     if front != 0 {
@@ -163,7 +163,7 @@ fn structure_fault(system: u64, last: Line, at: usize, s: &[u8]) -> usize
 
 // Whether a structure has no fault, told with fewer tests: in its first 17 bytes each field is there, DC the last. A no says nothing.
 fn is_structure(wrapping: u8, last: Line, s: &[u8]) -> bool
-    ensures { λ r. ⌜ (r ≡ true → Whole (now (s .entry))) ⌝ }
+    ensures { λ r. ⌜ (r ≡ true → Whole eight (now (s .entry))) ⌝ }
     ensures { λ r. ⌜ (r ≡ true → (system : ℕ) → wrapping ≡ wrappingOf system → last .0 ≡ systemOf system .last
         → Passes system (now (s .entry))) ⌝ }
 {

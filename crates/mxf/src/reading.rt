@@ -16,11 +16,12 @@ ghost use Rattle.rules.specs.Numbers.{andThen};
 ghost use Rattle.rules.specs.Laying.{locationAllowed};
 ghost use Rattle.rules.specs.Sheet.{locations, allWords, sheetOf};
 ghost use Rattle.sheet.specs.Standing.{inFront};
+ghost use Rattle.mxf.specs.Element.{eight};
 ghost use Rattle.mxf.specs.Served.{fiRead};
 ghost use Rattle.mxf.specs.Judging.{judged};
 ghost use Rattle.mxf.specs.Reading.{lastTests, readOf};
 ghost use Rattle.mxf.specs.Demands.{Reads};
-ghost use Rattle.mxf.specs.Parts.{packetsOfStructures, Judged, Found, Shown, Sized, Answers};
+ghost use Rattle.mxf.specs.Parts.{packetsOfStructures, Found, Coded, Shown, Sized, Answers};
 
 // "FI is the call's, 0 for 1080".
 fn fi_of(system: u64, fi: bool) -> u16
@@ -33,28 +34,29 @@ fn fi_of(system: u64, fi: bool) -> u16
 }
 
 // Flags: "bit 0 is FI, bit 1 is YCF". 001, figure 6: YCF 1 is luma.
-fn flags_of(first: u16, coding: u8) -> u16
+fn flags_of(first: u16, luma: u8, coding: u8) -> u16
     requires { ⌜ first < 2 ⌝ }
-    ensures { λ r. ⌜ r ≡ first + 2 * cond (eqb coding 4) 1 0 ⌝ }
+    ensures { λ r. ⌜ r ≡ first + 2 * cond (eqb coding luma) 1 0 ⌝ }
 {
-    if coding == crate::LUMA {
+    if coding == luma {
         return first + 2;
     }
     first
 }
 
 // "P pairs: line .. and flags".
-fn write_locations(system: u64, fi: bool, n: usize, s: &[u8], out: &mut [u16])
-    requires { ⌜ Judged system fi n (now s) ⌝ }
+pub fn write_locations(luma: u8, system: u64, fi: bool, n: usize, s: &[u8], out: &mut [u16])
+    requires { ⌜ Coded luma system fi n (now s) ⌝ }
     requires { ⌜ length (now out) ≡ 2 * n ⌝ }
-    ensures { λ _. ⌜ now (out .exit) ≡ locations (packetsOfStructures system fi n (now (s .entry))) ⌝ }
+    ensures { λ _. ⌜ ((t : Coded luma system fi n (now (s .entry)))
+        → now (out .exit) ≡ locations (packetsOfStructures (t .coding) system fi n (now (s .entry)))) ⌝ }
 {
     let first = fi_of(system, fi);
     let mut at = 0;
     let mut k = 0;
     while k < n {
         out[2 * k] = two(s, at) as u16;
-        out[2 * k + 1] = flags_of(first, s[at + 3]);
+        out[2 * k + 1] = flags_of(first, luma, s[at + 3]);
         at += crate::FIELDS + four(s, at + 6);
         k += 1;
     }
@@ -63,9 +65,9 @@ fn write_locations(system: u64, fi: bool, n: usize, s: &[u8], out: &mut [u16])
 // "W words: packets back to back". "A decoder regenerating a video signal .. shall generate the required ANC packet flag words, the
 // checksum word, parity and inverted parity-bits" (004, 7.2).
 fn write_packets(n: usize, s: &[u8], out: &mut [u16])
-    requires { ⌜ Shown n (now s) (now out) ⌝ }
-    ensures { λ _. ⌜ ((t : Shown n (now (s .entry)) (now (out .entry)))
-        → now (out .exit) ≡ allWords (packetsOfStructures (t .sys) (t .fi) n (now (s .entry)))) ⌝ }
+    requires { ⌜ Shown eight n (now s) (now out) ⌝ }
+    ensures { λ _. ⌜ ((t : Shown eight n (now (s .entry)) (now (out .entry)))
+        → now (out .exit) ≡ allWords (packetsOfStructures eight (t .sys) (t .fi) n (now (s .entry)))) ⌝ }
 {
     let table = packet::words();
     let mut at = 0;
@@ -84,23 +86,23 @@ fn write_packets(n: usize, s: &[u8], out: &mut [u16])
 
 // "A: the count 1, then the system." "B: the count P of locations, then P pairs". "C: the count W of words, then W words".
 fn write_sections(system: u64, fi: bool, packets: usize, s: &[u8], out: &mut [u16])
-    requires { ⌜ Sized system fi packets (now s) (now out) ⌝ }
-    ensures { λ _. ⌜ now (out .exit) ≡ sheetOf system (packetsOfStructures system fi packets (now (s .entry))) ⌝ }
+    requires { ⌜ Sized eight system fi packets (now s) (now out) ⌝ }
+    ensures { λ _. ⌜ now (out .exit) ≡ sheetOf system (packetsOfStructures eight system fi packets (now (s .entry))) ⌝ }
 {
     out[0] = 1;
     out[1] = system as u16;
     out[2] = packets as u16;
     let mid = 3 + 2 * packets;
-    write_locations(system, fi, packets, s, &mut out[3..mid]);
+    write_locations(crate::LUMA, system, fi, packets, s, &mut out[3..mid]);
     out[mid] = (out.len() - mid - 1) as u16;
     write_packets(packets, s, &mut out[mid + 1..]);
 }
 
 // 20, "a line in the frame that isn't allowed" (document 02, A3): how many packets in front of the first, of an element that has been judged.
-fn allowed(last: Line, n: usize, s: &[u8]) -> usize
+pub fn allowed(last: Line, n: usize, s: &[u8]) -> usize
     requires { ⌜ Found n (now s) ⌝ }
     ensures { λ r. ⌜ ((t : Found n (now (s .entry))) (y : System) → y .last ≡ last .0
-        → r ≡ inFront (locationAllowed y) (locations (packetsOfStructures (t .sys) (t .fi) n (now (s .entry))))) ⌝ }
+        → r ≡ inFront (locationAllowed y) (locations (packetsOfStructures (t .coding) (t .sys) (t .fi) n (now (s .entry))))) ⌝ }
 {
     let mut at = 0;
     let mut k = 0;

@@ -8,6 +8,7 @@ use lib.ListN.{getD}
 use borrow.Author.Needs.{needs}
 use borrow.Author.Tests.{ltb-false, eqb-true, eqb-false, not-false}
 use Rattle.rules.proofs.Basics.{never}
+use Rattle.mxf.specs.Element.{eight}
 use Rattle.mxf.specs.Judging.{twoIn}
 use Rattle.mxf.specs.Parts.{Whole}
 use Rattle.mxf.proofs.JudgingLaws.{passes}
@@ -46,7 +47,7 @@ module _ (c : tie.After-four2) where
   coded : (getD s 3 0 ≡ 4) ⊎ (getD s 3 0 ≡ 5)
   coded = ⊎-elim (λ x. inr (eqb-true _ _ (not-false _ (x .2 .left)))) (λ x. inl (x .left)) (coding .if5 .came)
 
-  is-whole : Whole s
+  is-whole : Whole eight s
   is-whole =
       let l = lined .before .before .before .before .if1 .left in
       let e = summed .two2 .ensures .0 in

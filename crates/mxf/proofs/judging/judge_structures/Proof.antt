@@ -6,6 +6,7 @@ use mathlib.Core.List.{List}
 use native.Mathlib.Omega.{arith}
 use lib.ListN.{length, take, drop}
 use borrow.Author.Needs.{needs}
+use Rattle.mxf.specs.Element.{eight}
 use Rattle.mxf.specs.Judging.{twoIn, fourIn}
 use Rattle.mxf.specs.Parts.{Whole, Begun}
 use Rattle.mxf.proofs.JudgingLaws.{at-surplus, at-end, all-there, samples-there, at-fault, at-next}
@@ -26,7 +27,7 @@ module _ (c : tie.Else1 Inv-loop μ-loop) where
   abbrev at : ℕ
   at = c .before .before .before .before .loop .at
 
-  passed : Whole (take (length s - at) (drop at s))
+  passed : Whole eight (take (length s - at) (drop at s))
   passed = c .before .structure-fault .ensures .1 (c .if1 .left)
 
   there : at + (14 + fourIn s (at + 6)) ≤ length s

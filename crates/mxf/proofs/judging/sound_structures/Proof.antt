@@ -8,6 +8,7 @@ use native.Mathlib.Omega.{arith}
 use lib.ListN.{length, take, drop}
 use borrow.Author.Needs.{needs}
 use borrow.Author.Tests.{not-false}
+use Rattle.mxf.specs.Element.{eight}
 use Rattle.mxf.specs.Judging.{twoIn, fourIn}
 use Rattle.mxf.specs.Parts.{Whole, Begun}
 use Rattle.mxf.proofs.JudgingLaws.{at-first, all-there, samples-there, at-next}
@@ -28,7 +29,7 @@ module _ (c : tie.Else1 Inv-loop μ-loop) where
   abbrev at : ℕ
   at = c .before .before .before .before .loop .at
 
-  passed : Whole (take (length s - at) (drop at s))
+  passed : Whole eight (take (length s - at) (drop at s))
   passed = c .before .is-structure .ensures .0 (not-false _ (c .if1 .left))
 
   there : at + (14 + fourIn s (at + 6)) ≤ length s

@@ -11,7 +11,7 @@ use Rattle.mxf.proofs.reading.allowed.Statement.{statement}
 use Rattle.mxf.proofs.reading.allowed.Tie as tie
 
 abbrev Inv-loop : tie.InvT-loop
-Inv-loop last n s at₀ k₀ at k = (t : Found n s) → Allowing (t .sys) (t .fi) n s (last .0) k at
+Inv-loop last n s at₀ k₀ at k = (t : Found n s) → Allowing (t .coding) (t .sys) (t .fi) n s (last .0) k at
 
 abbrev μ-loop : tie.MeasureT-loop
 μ-loop last n s at₀ k₀ at k = n - k
@@ -19,15 +19,15 @@ abbrev μ-loop : tie.MeasureT-loop
 -- in a turn the structure at `at` is without fault
 step : (c : tie.In-loop Inv-loop μ-loop)
     → (let d = c .before in let b = d .before .before in let a = b .args in
-    Turn (b .pre .sys) (b .pre .fi) (a .n) (a .s .now) (d .loop .k) (d .loop .at))
+    Turn (b .pre .coding) (b .pre .sys) (b .pre .fi) (a .n) (a .s .now) (d .loop .k) (d .loop .at))
 step c =
     let d = c .before in
     let b = d .before .before in
     let a = b .args in
-    turn (b .pre .sys) (b .pre .fi) (a .n) (a .s .now) (d .loop .k) (d .loop .at) (d .loop .inv (b .pre) .left) (c .loop-test .taken)
+    turn (b .pre .coding) (b .pre .sys) (b .pre .fi) (a .n) (a .s .now) (d .loop .k) (d .loop .at) (d .loop .inv (b .pre) .left) (c .loop-test .taken)
 
 loop-holds : tie.Need-loop-holds Inv-loop μ-loop
-loop-holds c t = let a = c .before .args in allowing-none (t .sys) (t .fi) (a .n) (a .s .now) (a .last .0) (t .judged)
+loop-holds c t = let a = c .before .args in allowing-none (t .coding) (t .sys) (t .fi) (a .n) (a .s .now) (a .last .0) (t .judged)
 
 two-requires : tie.Need-two-requires Inv-loop μ-loop
 two-requires c κs = let h = step c .inside in omega arith
@@ -43,7 +43,7 @@ returns c t y e =
     let w = c .before .before in
     let d = w .before .before in
     let a = d .before .before .args in
-    allowing-stop (t .sys) (t .fi) (a .n) (a .s .now) (a .last .0) (d .loop .k) (d .loop .at) (w .two .result) (d .loop .inv t)
+    allowing-stop (t .coding) (t .sys) (t .fi) (a .n) (a .s .now) (a .last .0) (d .loop .k) (d .loop .at) (w .two .result) (d .loop .inv t)
     (w .before .loop-test .taken) (w .two .ensures .0) y e (sym (c .before .may-stand .ensures y e) ∙ not-true _ (c .if1 .taken))
 
 add-four : tie.Need-add-four Inv-loop μ-loop
@@ -70,7 +70,7 @@ loop-again c t =
     let w = m .before in
     let d = w .before .before in
     let a = d .before .before .args in
-    allowing-more (t .sys) (t .fi) (a .n) (a .s .now) (a .last .0) (d .loop .k) (d .loop .at) (w .two .result) (d .loop .inv t)
+    allowing-more (t .coding) (t .sys) (t .fi) (a .n) (a .s .now) (a .last .0) (d .loop .k) (d .loop .at) (w .two .result) (d .loop .inv t)
     (w .before .loop-test .taken) (w .two .ensures .0) (λ y e. sym (m .may-stand .ensures y e) ∙ not-false _ (c .before .if1 .left))
     (c .four .result) (c .four .ensures .0)
 
@@ -78,7 +78,7 @@ returns-2 : tie.Need-returns-2 Inv-loop μ-loop
 returns-2 c t y e =
     let d = c .before in
     let a = d .before .before .args in
-    allowing-all (t .sys) (t .fi) (a .n) (a .s .now) (a .last .0) (d .loop .k) (d .loop .at) (d .loop .inv t) (c .loop-test .left) y e
+    allowing-all (t .coding) (t .sys) (t .fi) (a .n) (a .s .now) (a .last .0) (d .loop .k) (d .loop .at) (d .loop .inv t) (c .loop-test .left) y e
 
 pub allowed-spec : {M : Type 1} → statement M
 allowed-spec =

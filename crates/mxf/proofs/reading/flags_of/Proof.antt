@@ -9,20 +9,20 @@ use borrow.Author.Tests.{eq-eqb, ne-eqb}
 use Rattle.mxf.proofs.reading.flags_of.Statement.{statement}
 use Rattle.mxf.proofs.reading.flags_of.Tie as tie
 
-luma : (first coding : ℕ) → coding ≡ 4 → first + 2 ≡ first + 2 * cond (eqb coding 4) 1 0
-luma first coding e = rw (eq-eqb coding 4 e)
+luma : (first other coding : ℕ) → coding ≡ other → first + 2 ≡ first + 2 * cond (eqb coding other) 1 0
+luma first other coding e = rw (eq-eqb coding other e)
 
-colour : (first coding : ℕ) → (coding ≡ 4 → ⊥) → first ≡ first + 2 * cond (eqb coding 4) 1 0
-colour first coding h = rw (ne-eqb coding 4 h) (omega arith)
+colour : (first other coding : ℕ) → (coding ≡ other → ⊥) → first ≡ first + 2 * cond (eqb coding other) 1 0
+colour first other coding h = rw (ne-eqb coding other h) (omega arith)
 
 add-result : tie.Need-add-result
 add-result c = search needs
 
 returns : tie.Need-returns
-returns c = luma _ _ (c .if1 .taken)
+returns c = luma _ _ _ (c .if1 .taken)
 
 returns-2 : tie.Need-returns-2
-returns-2 c = colour _ _ (c .if1 .left)
+returns-2 c = colour _ _ _ (c .if1 .left)
 
 pub flags-of-spec : {M : Type 1} → statement M
 flags-of-spec = tie.close (tie.spec add-result returns returns-2)

@@ -7,6 +7,7 @@ use lib.ListN.{length, take, drop}
 use borrow.Author.Needs.{needs}
 use Rattle.rules.specs.Base.{Bytes}
 use Rattle.rules.specs.Systems.{known, system}
+use Rattle.mxf.specs.Element.{eight}
 use Rattle.mxf.specs.Judging.{judged}
 use Rattle.mxf.specs.Reading.{readOf}
 use Rattle.mxf.specs.Parts.{Found}
@@ -61,14 +62,14 @@ returns-2 c =
     let a = d .before .before .before .before .before .before .args in
     answered (a .system) (a .fi) (a .element .now) (a .sheet .now) (d .judge .result) (a .sheet .now) (bytes (d .before .before .before))
     (known-system (a .system) (a .fi) (a .element .now) (a .sheet .now) (d .judge .result) (a .sheet .now) (is-one (d .before))
-    (refused-before (a .system) (a .fi) (a .element .now) (a .sheet .now) (d .judge .result) (judged-is d) (c .if2 .taken)))
+    (refused-before eight (a .system) (a .fi) (a .element .now) (a .sheet .now) (d .judge .result) (judged-is d) (c .if2 .taken)))
 
 -- past 19 the head is there
 there : (c : tie.Else2) → 22 ≤ length (c .before .before .before .before .before .before .before .before .args .element .now)
 there c =
     let d = c .before .before in
     let a = d .before .before .before .before .before .before .args in
-    head-there (a .system) (a .fi) (a .element .now) (a .sheet .now) (d .judge .result) (judged-is d) (c .if2 .left)
+    head-there eight (a .system) (a .fi) (a .element .now) (a .sheet .now) (d .judge .result) (judged-is d) (c .if2 .left)
 
 -- and the structures have been judged
 abbrev found : (c : tie.Else2)
@@ -78,9 +79,10 @@ found c =
     let d = c .before .before in
     let a = d .before .before .before .before .before .before .args in
     record {
+      coding = eight;
       sys = a .system;
       fi = a .fi;
-      judged = structs-are (a .system) (a .fi) (a .element .now) (a .sheet .now) (d .judge .result) (judged-is d) (c .if2 .left);
+      judged = structs-are eight (a .system) (a .fi) (a .element .now) (a .sheet .now) (d .judge .result) (judged-is d) (c .if2 .left);
     }
 
 sub-allowed : tie.Need-sub-allowed
@@ -109,7 +111,7 @@ returns-3 c =
     let is = sym (last-is (a .system) (f .figures-of .result) (f .figures-of .ensures)) in
     answered (a .system) (a .fi) (a .element .now) (a .sheet .now) (c .refusal2 .result) (a .sheet .now) (bytes f)
     (known-system (a .system) (a .fi) (a .element .now) (a .sheet .now) (c .refusal2 .result) (a .sheet .now) (is-one (d .before))
-    (not-allowed (a .system) (a .fi) (a .element .now) (a .sheet .now) (d .judge .result) (judged-is d) (z .if2 .left) (w .allowed .result)
+    (not-allowed eight (a .system) (a .fi) (a .element .now) (a .sheet .now) (d .judge .result) (judged-is d) (z .if2 .left) (w .allowed .result)
     (w .allowed .ensures (found z) (system (a .system)) is) (c .before .if3 .taken) (c .refusal2 .result) (c .refusal2 .ensures)))
 
 written-requires : tie.Need-written-requires
@@ -135,7 +137,7 @@ returns-4 c =
     let after = v .written .last .1 .1 .1 .1 .0 in
     answered (a .system) (a .fi) (a .element .now) (a .sheet .now) (v .written .result) after (bytes f)
     (known-system (a .system) (a .fi) (a .element .now) (a .sheet .now) (v .written .result) after (is-one (d .before))
-    (all-allowed (a .system) (a .fi) (a .element .now) (a .sheet .now) (d .judge .result) (judged-is d) (z .if2 .left) (w .allowed .result)
+    (all-allowed eight (a .system) (a .fi) (a .element .now) (a .sheet .now) (d .judge .result) (judged-is d) (z .if2 .left) (w .allowed .result)
     (w .allowed .ensures (found z) (system (a .system)) is) (v .before .before .if3 .left) (v .written .result) after (v .written .ensures)))
 
 pub read-spec : {M : Type 1} → statement M

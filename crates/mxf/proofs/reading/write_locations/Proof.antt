@@ -1,31 +1,45 @@
 -- `reading::write_locations` meets its contract. The loop's invariant is `Locating`: the locations of the packets before `at` are written,
 -- and with those of the structures from `at` on they are all. The measure is the number of structures left. Assumes nothing.
-use Prim.Native.Nat.{_-_}
-use mathlib.Core.Path.{_≡_, refl}
+use Prim.Native.Nat.{ℕ, _+_, _-_, _*_}
+use mathlib.Core.Path.{_≡_, refl, ap, _∙_}
 use native.Mathlib.Omega.{arith}
-use lib.ListN.{length, length-set}
+use lib.ListN.{length, getD, length-set}
 use borrow.Author.Needs.{needs}
+use mathlib.Core.Bool.{Bool, cond}
+use mathlib.Core.List.{List}
+use lib.Dec.{eqb}
+use Rattle.mxf.specs.Element.{luma as lumaOf}
+use Rattle.mxf.specs.Parts.{Coded}
 use Rattle.mxf.proofs.Elements.{fi-small}
 use Rattle.mxf.proofs.ReadingLaws.{Turn, turn, Locating, locating-none, locating-more, locating-all}
 use Rattle.mxf.proofs.reading.write_locations.Statement.{statement}
 use Rattle.mxf.proofs.reading.write_locations.Tie as tie
 
 abbrev Inv-loop : tie.InvT-loop
-Inv-loop system fi n s out₀ first at₀ k₀ out at k = (length out ≡ length out₀) × Locating system fi n s out k at
+Inv-loop luma system fi n s out₀ first at₀ k₀ out at k =
+    (length out ≡ length out₀) × ((t : Coded luma system fi n s) → Locating (t .coding) system fi n s out k at)
 
 abbrev μ-loop : tie.MeasureT-loop
-μ-loop system fi n s out₀ first at₀ k₀ out at k = n - k
+μ-loop luma system fi n s out₀ first at₀ k₀ out at k = n - k
 
 abbrev start : tie.At-loop Inv-loop μ-loop → tie.Start Inv-loop μ-loop
 start d = d .before .before .before .before
 
 -- in a turn the structure at `at` is without fault
 step : (c : tie.In-loop Inv-loop μ-loop)
-    → (let d = c .before in let a = start d .args in Turn (a .system) (a .fi) (a .n) (a .s .now) (d .loop .k) (d .loop .at))
+    → (let d = c .before in let b = start d in let a = b .args in
+    Turn (b .pre .0 .coding) (a .system) (a .fi) (a .n) (a .s .now) (d .loop .k) (d .loop .at))
 step c =
     let d = c .before in
-    let a = start d .args in
-    turn (a .system) (a .fi) (a .n) (a .s .now) (d .loop .k) (d .loop .at) (d .loop .inv .1 .left) (c .loop-test .taken)
+    let b = start d in
+    let a = b .args in
+    turn (b .pre .0 .coding) (a .system) (a .fi) (a .n) (a .s .now) (d .loop .k) (d .loop .at) (d .loop .inv .1 (b .pre .0) .left)
+    (c .loop-test .taken)
+
+-- luma samples are those of the coding
+flags-by : (first coding : ℕ) {luma flags system n : ℕ} {fi : Bool} {s : List ℕ} (t : Coded luma system fi n s)
+    → flags ≡ first + 2 * cond (eqb coding luma) 1 0 → flags ≡ first + 2 * cond (eqb coding (lumaOf (t .coding))) 1 0
+flags-by first coding t e = e ∙ ap (λ (m : ℕ). first + 2 * cond (eqb coding m) 1 0) (t .is)
 
 fi-of-requires : tie.Need-fi-of-requires Inv-loop μ-loop
 fi-of-requires c κs = search needs
@@ -34,7 +48,7 @@ loop-holds : tie.Need-loop-holds Inv-loop μ-loop
 loop-holds c =
     let b = c .before .before .before in
     let a = b .args in
-    (refl, locating-none (a .system) (a .fi) (a .n) (a .s .now) (a .out .now) (b .pre .0) (b .pre .1))
+    (refl, λ t. locating-none (t .coding) (a .system) (a .fi) (a .n) (a .s .now) (a .out .now) (t .judged) (b .pre .1))
 
 two-requires : tie.Need-two-requires Inv-loop μ-loop
 two-requires c κs = let h = step c .inside in omega arith
@@ -43,13 +57,13 @@ cast-out : tie.Need-cast-out Inv-loop μ-loop
 cast-out c = search needs
 
 mul-out : tie.Need-mul-out Inv-loop μ-loop
-mul-out c = let l = c .before .before .loop .inv .1 .long in omega arith
+mul-out c = let d = c .before .before in let l = d .loop .inv .1 (start d .pre .0) .long in omega arith
 
 mul-out-2 : tie.Need-mul-out-2 Inv-loop μ-loop
-mul-out-2 c = let l = c .before .before .loop .inv .1 .long in omega arith
+mul-out-2 c = let d = c .before .before in let l = d .loop .inv .1 (start d .pre .0) .long in omega arith
 
 slice-write-out : tie.Need-slice-write-out Inv-loop μ-loop
-slice-write-out c = let l = c .before .before .loop .inv .1 .long in omega arith
+slice-write-out c = let d = c .before .before in let l = d .loop .inv .1 (start d .pre .0) .long in omega arith
 
 add-flags-of : tie.Need-add-flags-of Inv-loop μ-loop
 add-flags-of c = let h = step (c .before) .inside in omega arith
@@ -66,16 +80,16 @@ flags-of-requires c κs =
     omega arith
 
 mul-out-3 : tie.Need-mul-out-3 Inv-loop μ-loop
-mul-out-3 c = let l = c .before .before .before .before .loop .inv .1 .long in omega arith
+mul-out-3 c = let d = c .before .before .before .before in let l = d .loop .inv .1 (start d .pre .0) .long in omega arith
 
 add-out : tie.Need-add-out Inv-loop μ-loop
-add-out c = let l = c .before .before .before .before .loop .inv .1 .long in omega arith
+add-out c = let d = c .before .before .before .before in let l = d .loop .inv .1 (start d .pre .0) .long in omega arith
 
 mul-out-4 : tie.Need-mul-out-4 Inv-loop μ-loop
-mul-out-4 c = let l = c .before .before .before .before .loop .inv .1 .long in omega arith
+mul-out-4 c = let d = c .before .before .before .before in let l = d .loop .inv .1 (start d .pre .0) .long in omega arith
 
 slice-write-out-2 : tie.Need-slice-write-out-2 Inv-loop μ-loop
-slice-write-out-2 c = let l = c .before .before .before .before .loop .inv .1 .long in simp length-set (omega arith)
+slice-write-out-2 c = let d = c .before .before .before .before in let l = d .loop .inv .1 (start d .pre .0) .long in simp length-set (omega arith)
 
 add-four : tie.Need-add-four Inv-loop μ-loop
 add-four c = let h = step (c .before .before .before) .inside in omega arith
@@ -102,19 +116,20 @@ loop-again c =
     let d = t .before .before in
     let a = start d .args in (
       simp length-set (d .loop .inv .0),
-      locating-more (a .system) (a .fi) (a .n) (a .s .now) (d .loop .out) (d .loop .k) (d .loop .at) (d .before .fi-of .result) (t .two .result)
-          (f .flags-of .result) (c .four .result) (d .loop .inv .1) (t .before .loop-test .taken) (d .before .fi-of .ensures) (t .two .ensures .0)
-          (f .flags-of .ensures) (c .four .ensures .0),
+      λ g.
+          locating-more (g .coding) (a .system) (a .fi) (a .n) (a .s .now) (d .loop .out) (d .loop .k) (d .loop .at) (d .before .fi-of .result)
+          (t .two .result) (f .flags-of .result) (c .four .result) (d .loop .inv .1 g) (t .before .loop-test .taken) (d .before .fi-of .ensures)
+          (t .two .ensures .0) (flags-by (d .before .fi-of .result) (getD (a .s .now) (d .loop .at + 3) 0) g (f .flags-of .ensures)) (c .four .ensures .0),
     )
 
 same-length : tie.Need-same-length Inv-loop μ-loop
 same-length c = c .before .loop .inv .0
 
 returns : tie.Need-returns Inv-loop μ-loop
-returns c =
+returns c t =
     let d = c .before in
     let a = start d .args in
-    locating-all (a .system) (a .fi) (a .n) (a .s .now) (d .loop .out) (d .loop .k) (d .loop .at) (d .loop .inv .1) (c .loop-test .left)
+    locating-all (t .coding) (a .system) (a .fi) (a .n) (a .s .now) (d .loop .out) (d .loop .k) (d .loop .at) (d .loop .inv .1 t) (c .loop-test .left)
 
 pub write-locations-spec : {M : Type 1} → statement M
 write-locations-spec =

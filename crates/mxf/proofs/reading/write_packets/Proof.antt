@@ -5,6 +5,7 @@ use mathlib.Core.Path.{_≡_, refl, _∙_}
 use native.Mathlib.Omega.{arith}
 use lib.ListN.{length}
 use borrow.Author.Needs.{needs}
+use Rattle.mxf.specs.Element.{eight}
 use Rattle.mxf.specs.Judging.{twoIn}
 use Rattle.mxf.specs.Parts.{Shown}
 use Rattle.mxf.proofs.ReadingLaws.{Turn, turn, Wording, wording-none, wording-room, wording-long, wording-more, wording-all}
@@ -12,7 +13,7 @@ use Rattle.mxf.proofs.reading.write_packets.Statement.{statement}
 use Rattle.mxf.proofs.reading.write_packets.Tie as tie
 
 abbrev Inv-loop : tie.InvT-loop
-Inv-loop n s out₀ table at₀ o₀ k₀ out at o k = (length out ≡ length out₀) × ((t : Shown n s out₀) → Wording (t .sys) (t .fi) n s out k at o)
+Inv-loop n s out₀ table at₀ o₀ k₀ out at o k = (length out ≡ length out₀) × ((t : Shown eight n s out₀) → Wording (t .sys) (t .fi) n s out k at o)
 
 abbrev μ-loop : tie.MeasureT-loop
 μ-loop n s out₀ table at₀ o₀ k₀ out at o k = n - k
@@ -22,11 +23,11 @@ start d = d .before .before .before .before
 
 -- in a turn the structure at `at` is without fault, and there is room for its packet
 step : (c : tie.In-loop Inv-loop μ-loop)
-    → (let d = c .before in let b = start d in Turn (b .pre .sys) (b .pre .fi) (b .args .n) (b .args .s .now) (d .loop .k) (d .loop .at))
+    → (let d = c .before in let b = start d in Turn eight (b .pre .sys) (b .pre .fi) (b .args .n) (b .args .s .now) (d .loop .k) (d .loop .at))
 step c =
     let d = c .before in
     let b = start d in
-    turn (b .pre .sys) (b .pre .fi) (b .args .n) (b .args .s .now) (d .loop .k) (d .loop .at) (d .loop .inv .1 (b .pre) .left) (c .loop-test .taken)
+    turn eight (b .pre .sys) (b .pre .fi) (b .args .n) (b .args .s .now) (d .loop .k) (d .loop .at) (d .loop .inv .1 (b .pre) .left) (c .loop-test .taken)
 
 room : (c : tie.In-loop Inv-loop μ-loop)
     → (let d = c .before in d .loop .o + twoIn (start d .args .s .now) (d .loop .at + 4) + 4 ≤ length (d .loop .out))

@@ -1,32 +1,37 @@
 -- `reading::write_sections` meets its contract: the three counts with the system, the locations and the words, each part lent and come
 -- back. Assumes nothing.
 use Prim.Native.Nat.{_+_, _-_, _*_}
-use mathlib.Core.Path.{_≡_}
+use mathlib.Core.Path.{_≡_, refl}
 use native.Mathlib.Omega.{arith}
 use lib.ListN.{length, take, drop, set, length-set}
 use borrow.Author.Needs.{needs}
 use Rattle.rules.specs.Sheet.{limit, allWords}
 use Rattle.sheet.proofs.Filling.{threeOf, backOf}
-use Rattle.mxf.specs.Parts.{packetsOfStructures, Shown}
+use Rattle.mxf.specs.Element.{eight}
+use Rattle.mxf.specs.Parts.{packetsOfStructures, Coded, Shown}
 use Rattle.mxf.proofs.ReadingLaws.{sections-room, before-long, words-lent, sections-long, sections-written}
 use Rattle.mxf.proofs.reading.write_sections.Statement.{statement}
 use Rattle.mxf.proofs.reading.write_sections.Tie as tie
 
 -- as many numbers as the sheet has
 room : (b : tie.Start) → (let a = b .args in
-    length (a .out .now) ≡ 4 + 2 * a .packets + length (allWords (packetsOfStructures (a .system) (a .fi) (a .packets) (a .s .now))))
-room b = let a = b .args in sections-room (a .system) (a .fi) (a .packets) (a .s .now) (a .out .now) (b .pre)
+    length (a .out .now) ≡ 4 + 2 * a .packets + length (allWords (packetsOfStructures eight (a .system) (a .fi) (a .packets) (a .s .now))))
+room b = let a = b .args in sections-room eight (a .system) (a .fi) (a .packets) (a .s .now) (a .out .now) (b .pre)
+
+-- the locations are those of 8-bit samples
+abbrev coded : (b : tie.Start) → (let a = b .args in Coded 4 (a .system) (a .fi) (a .packets) (a .s .now))
+coded b = record { coding = eight; is = refl; judged = b .pre .judged }
 
 -- after the locations have come back, `out` is as long as it was
 long : (c : tie.After-write-locations)
     → (let a = c .before .before .before .before .args in
-    length (backOf (threeOf (a .out .now) 1 (a .system) (a .packets)) (c .write-locations .last .1 .1 .1 .1 .0) (3 + 2 * a .packets))
+    length (backOf (threeOf (a .out .now) 1 (a .system) (a .packets)) (c .write-locations .last .1 .1 .1 .1 .1 .0) (3 + 2 * a .packets))
     ≡ length (a .out .now))
 long c =
     let b = c .before .before .before .before in
     let a = b .args in
     let pairs = c .write-locations in
-    before-long (a .system) (a .fi) (a .packets) (a .s .now) (a .out .now) (b .pre) (pairs .last .1 .1 .1 .1 .0) (pairs .ensures)
+    before-long eight (a .system) (a .fi) (a .packets) (a .s .now) (a .out .now) (b .pre) (pairs .last .1 .1 .1 .1 .1 .0) (pairs .ensures (coded b))
 
 slice-write-out : tie.Need-slice-write-out
 slice-write-out c = let r = room (c .before .before) in omega arith
@@ -62,7 +67,7 @@ part-write-locations-end : tie.Need-part-write-locations-end
 part-write-locations-end c = let r = room (c .before .before) in simp length-set (omega arith)
 
 write-locations-requires : tie.Need-write-locations-requires
-write-locations-requires c κs = search needs
+write-locations-requires c κs = let t = coded (c .before .before .before) in search needs
 
 sub-out : tie.Need-sub-out
 sub-out c = let d = c .before .before in let l = long d in let r = room (d .before .before .before .before) in omega arith
@@ -114,9 +119,9 @@ part-write-packets-end c = search needs
 -- the words are those of this system and FI
 abbrev words-of : (d : tie.After-write-locations)
     → (let b = d .before .before .before .before in let a = b .args in
-    let before = backOf (threeOf (a .out .now) 1 (a .system) (a .packets)) (d .write-locations .last .1 .1 .1 .1 .0) (3 + 2 * a .packets) in
+    let before = backOf (threeOf (a .out .now) 1 (a .system) (a .packets)) (d .write-locations .last .1 .1 .1 .1 .1 .0) (3 + 2 * a .packets) in
     let counted = set before (3 + 2 * a .packets) (length before - (3 + 2 * a .packets) - 1) in
-    Shown (a .packets) (a .s .now) (take (length counted - (3 + 2 * a .packets + 1)) (drop (3 + 2 * a .packets + 1) counted)))
+    Shown eight (a .packets) (a .s .now) (take (length counted - (3 + 2 * a .packets + 1)) (drop (3 + 2 * a .packets + 1) counted)))
 words-of d =
     let b = d .before .before .before .before in
     let a = b .args in
@@ -125,7 +130,7 @@ words-of d =
       sys = a .system;
       fi = a .fi;
       judged = b .pre .judged;
-      room = words-lent (a .system) (a .fi) (a .packets) (a .s .now) (a .out .now) (b .pre) (pairs .last .1 .1 .1 .1 .0) (pairs .ensures);
+      room = words-lent eight (a .system) (a .fi) (a .packets) (a .s .now) (a .out .now) (b .pre) (pairs .last .1 .1 .1 .1 .1 .0) (pairs .ensures (coded b));
     }
 
 write-packets-requires : tie.Need-write-packets-requires
@@ -138,7 +143,7 @@ same-length c =
     let b = d .before .before .before .before in
     let a = b .args in
     let pairs = d .write-locations in
-    sections-long (a .system) (a .fi) (a .packets) (a .s .now) (a .out .now) (b .pre) (pairs .last .1 .1 .1 .1 .0) (pairs .ensures)
+    sections-long eight (a .system) (a .fi) (a .packets) (a .s .now) (a .out .now) (b .pre) (pairs .last .1 .1 .1 .1 .1 .0) (pairs .ensures (coded b))
     (w .write-packets .last .1 .1 .0) (w .write-packets .ensures (words-of d))
 
 returns : tie.Need-returns
@@ -148,7 +153,7 @@ returns c =
     let b = d .before .before .before .before in
     let a = b .args in
     let pairs = d .write-locations in
-    sections-written (a .system) (a .fi) (a .packets) (a .s .now) (a .out .now) (b .pre) (pairs .last .1 .1 .1 .1 .0) (pairs .ensures)
+    sections-written eight (a .system) (a .fi) (a .packets) (a .s .now) (a .out .now) (b .pre) (pairs .last .1 .1 .1 .1 .1 .0) (pairs .ensures (coded b))
     (w .write-packets .last .1 .1 .0) (w .write-packets .ensures (words-of d))
 
 pub write-sections-spec : {M : Type 1} → statement M

@@ -8,6 +8,7 @@ use lib.Seq.{length-take-le}
 use borrow.Author.Needs.{needs}
 use borrow.Author.Tests.{ltb-true, ltb-false}
 use Rattle.rules.specs.Sheet.{limit}
+use Rattle.mxf.specs.Element.{eight}
 use Rattle.mxf.proofs.ReadingLaws.{packets-are, numbers-are, head-there, too-many, no-room, sized, all-read}
 use Rattle.mxf.proofs.reading.written.Statement.{statement}
 use Rattle.mxf.proofs.reading.written.Tie as tie
@@ -16,13 +17,13 @@ use Rattle.mxf.proofs.reading.written.Tie as tie
 counted : (b : tie.Start) → 4 + 2 * b .args .j .packets ≤ b .args .j .numbers
 counted b =
     let a = b .args in
-    let p = packets-are (a .system) (a .fi) (a .e .now) (a .sheet .now) (a .j) (b .pre .1) (b .pre .2) in
-    let n = numbers-are (a .system) (a .fi) (a .e .now) (a .sheet .now) (a .j) (b .pre .1) (b .pre .2) in
+    let p = packets-are eight (a .system) (a .fi) (a .e .now) (a .sheet .now) (a .j) (b .pre .1) (b .pre .2) in
+    let n = numbers-are eight (a .system) (a .fi) (a .e .now) (a .sheet .now) (a .j) (b .pre .1) (b .pre .2) in
     omega arith
 
 -- key, length and N are there
 there : (b : tie.Start) → 22 ≤ length (b .args .e .now)
-there b = let a = b .args in head-there (a .system) (a .fi) (a .e .now) (a .sheet .now) (a .j) (b .pre .1) (b .pre .2)
+there b = let a = b .args in head-there eight (a .system) (a .fi) (a .e .now) (a .sheet .now) (a .j) (b .pre .1) (b .pre .2)
 
 -- past the tests the sheet has room
 fits : (c : tie.Else3) → (let a = c .before .before .before .before .before .before .args in a .j .numbers ≤ length (a .sheet .now))
@@ -36,7 +37,7 @@ unfolding limit
 returns c =
     let b = c .before .before .before .before .before in
     let a = b .args in
-    too-many (a .system) (a .fi) (a .e .now) (a .sheet .now) (a .j) (b .pre .1) (b .pre .2) (c .before .if1 .taken)
+    too-many eight (a .system) (a .fi) (a .e .now) (a .sheet .now) (a .j) (b .pre .1) (b .pre .2) (c .before .if1 .taken)
     (c .refusal .result) (c .refusal .ensures)
 
 sub-if2 : tie.Need-sub-if2
@@ -57,7 +58,7 @@ returns-2 c =
     let d = c .before .before in
     let b = d .before .before .before .before in
     let a = b .args in
-    no-room (a .system) (a .fi) (a .e .now) (a .sheet .now) (a .j) (b .pre .1) (b .pre .2) (d .if1 .left)
+    no-room eight (a .system) (a .fi) (a .e .now) (a .sheet .now) (a .j) (b .pre .1) (b .pre .2) (d .if1 .left)
     (⊎-elim (λ w. inl (w .taken)) (λ w. inr (ltb-true (length (a .sheet .now)) (a .j .numbers) (w .1 .taken))) (c .before .if2 .came))
     (c .refusal2 .result) (c .refusal2 .ensures)
 
@@ -84,7 +85,7 @@ write-sections-requires c κs =
     let d = c .before .before .before in
     let b = d .before .before .before .before .before .before in
     let a = b .args in
-    sized (a .system) (a .fi) (a .e .now) (a .sheet .now) (a .j) (b .pre .1) (b .pre .2) (d .before .before .if1 .left)
+    sized eight (a .system) (a .fi) (a .e .now) (a .sheet .now) (a .j) (b .pre .1) (b .pre .2) (d .before .before .if1 .left)
     (d .before .if2 .left) (fits d) (take (a .j .numbers) (a .sheet .now)) (b .pre .0) (length-take-le (a .j .numbers) (a .sheet .now) (fits d))
 
 same-length : tie.Need-same-length
@@ -97,7 +98,7 @@ returns-3 c =
     let d = w .before .before .before .before in
     let b = d .before .before .before .before .before .before in
     let a = b .args in
-    all-read (a .system) (a .fi) (a .e .now) (a .sheet .now) (a .j) (b .pre .1) (b .pre .2) (d .before .before .if1 .left)
+    all-read eight (a .system) (a .fi) (a .e .now) (a .sheet .now) (a .j) (b .pre .1) (b .pre .2) (d .before .before .if1 .left)
     (d .before .if2 .left) (fits d) (w .write-sections .last .1 .1 .1 .1 .0) (w .write-sections .ensures)
 
 sub-write-sections-2 : tie.Need-sub-write-sections-2
@@ -123,7 +124,7 @@ write-sections-requires-2 c κs =
     let d = c .before .before .before in
     let b = d .before .before .before .before .before .before in
     let a = b .args in
-    sized (a .system) (a .fi) (a .e .now) (a .sheet .now) (a .j) (b .pre .1) (b .pre .2) (d .before .before .if1 .left)
+    sized eight (a .system) (a .fi) (a .e .now) (a .sheet .now) (a .j) (b .pre .1) (b .pre .2) (d .before .before .if1 .left)
     (d .before .if2 .left) (fits d) (take (a .j .numbers) (a .sheet .now)) (b .pre .0) (length-take-le (a .j .numbers) (a .sheet .now) (fits d))
 
 same-length-2 : tie.Need-same-length-2
@@ -136,7 +137,7 @@ returns-4 c =
     let d = w .before .before .before .before in
     let b = d .before .before .before .before .before .before in
     let a = b .args in
-    all-read (a .system) (a .fi) (a .e .now) (a .sheet .now) (a .j) (b .pre .1) (b .pre .2) (d .before .before .if1 .left)
+    all-read eight (a .system) (a .fi) (a .e .now) (a .sheet .now) (a .j) (b .pre .1) (b .pre .2) (d .before .before .if1 .left)
     (d .before .if2 .left) (fits d) (w .write-sections2 .last .1 .1 .1 .1 .0) (w .write-sections2 .ensures)
 
 pub written-spec : {M : Type 1} → statement M
