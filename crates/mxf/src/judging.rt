@@ -9,7 +9,7 @@ ghost use mathlib.Core.Bool.{Bool, true};
 ghost use lib.ListN.{length};
 ghost use Rattle.rules.specs.Systems.{system as systemOf};
 ghost use Rattle.rules.specs.Numbers.{Outcome, refused};
-ghost use Rattle.mxf.specs.Element.{eight, key, wrapping as wrappingOf};
+ghost use Rattle.mxf.specs.Element.{Coding, eight, luma as lumaOf, colour as colourOf, key, wrapping as wrappingOf};
 ghost use Rattle.mxf.specs.Judging.{twoIn, threeIn, fourIn, frontThen, arrayThen, structures, keyThen, headThen, judged};
 ghost use Rattle.mxf.specs.Reading.{readOf};
 ghost use Rattle.mxf.specs.Parts.{faultOr, Whole, Passes, Begun};
@@ -63,7 +63,7 @@ fn key_bytes(e: &[u8]) -> usize
 }
 
 // Key, length and N (004, tables 5 and 6): the place of the first fault; 22, where the structures start, where there is none.
-fn head_fault(e: &[u8]) -> usize
+pub fn head_fault(e: &[u8]) -> usize
     ensures { λ r. ⌜ (r ≤ 22) × ((o : Outcome) → headThen (now (e .entry)) o ≡ faultOr 22 r o)
         × (r ≡ 22 → (22 ≤ length (now (e .entry))) × (length (now (e .entry)) < 16777236)) ⌝ }
 {
@@ -89,10 +89,12 @@ fn head_fault(e: &[u8]) -> usize
     crate::HEAD
 }
 
-// Line, wrapping and coding of a structure that starts at place `at` (004, table 7): the place of the first fault; 0 where there is none.
-fn front_fault(system: u64, last: Line, at: usize, s: &[u8]) -> usize
+// Line, wrapping and coding of a structure that starts at place `at` (004, table 7): the place of the first fault; 0 where there is none. The
+// coding is told by its two numbers, of luma and of color difference samples.
+pub fn front_fault(luma: u8, colour: u8, system: u64, last: Line, at: usize, s: &[u8]) -> usize
     requires { ⌜ (0 < at) × (at + length (now s) < 4294967296) ⌝ }
-    ensures { λ r. ⌜ (last .0 ≡ systemOf system .last → (o : Outcome) → frontThen eight system at (now (s .entry)) o ≡ faultOr 0 r o) ⌝ }
+    ensures { λ r. ⌜ ((c : Coding) → luma ≡ lumaOf c → colour ≡ colourOf c → last .0 ≡ systemOf system .last
+        → (o : Outcome) → frontThen c system at (now (s .entry)) o ≡ faultOr 0 r o) ⌝ }
 {
     let missing = at + s.len();
     if s.len() < 2 {
@@ -111,7 +113,7 @@ fn front_fault(system: u64, last: Line, at: usize, s: &[u8]) -> usize
     if s.len() < 4 {
         return missing;
     }
-    if s[3] != crate::LUMA && s[3] != crate::COLOUR {
+    if s[3] != luma && s[3] != colour {
         return at + 3;
     }
     0
@@ -154,7 +156,7 @@ fn structure_fault(system: u64, last: Line, at: usize, s: &[u8]) -> usize
         → (o : Outcome) → frontThen eight system at (now (s .entry)) (arrayThen eight at (now (s .entry)) o) ≡ faultOr 0 r o)
         × (r ≡ 0 → Whole eight (now (s .entry))) ⌝ }
 {
-    let front = front_fault(system, last, at, s);
+    let front = front_fault(crate::LUMA, crate::COLOUR, system, last, at, s);
     if front != 0 {
         return front;
     }

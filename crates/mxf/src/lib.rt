@@ -7,7 +7,16 @@ mod judging;
 mod reading;
 mod writing;
 
+pub use judging::four;
+pub use judging::front_fault;
+pub use judging::head_fault;
+pub use judging::two;
+pub use reading::allowed;
 pub use reading::read;
+pub use reading::write_locations;
+pub use writing::put_fields;
+pub use writing::put_head;
+pub use writing::serves;
 pub use writing::write;
 
 // 004, table 6.
@@ -34,10 +43,10 @@ const KEY: [u8; 16] = [
 const LONG_FORM: u8 = 0x83;
 
 // Bytes before the first structure: key, length, N.
-const HEAD: usize = 22;
+pub const HEAD: usize = 22;
 
 // Bytes of a structure before its samples: line, wrapping, coding, sample count, array count, array element length (004, table 7).
-const FIELDS: usize = 14;
+pub const FIELDS: usize = 14;
 
 // 004, table 7, sample coding: 8-bit luma samples, 8-bit color difference samples.
 const LUMA: u8 = 4;
@@ -45,7 +54,7 @@ const LUMA: u8 = 4;
 const COLOUR: u8 = 5;
 
 // "Wrapping is VANC frame for 1080, VANC progressive frame for 720" (document 02, A1).
-fn wrapping(system: u64) -> u8
+pub fn wrapping(system: u64) -> u8
     ensures { λ r. ⌜ r ≡ wrappingOf system ⌝ }
 {
     if system == 3 {
