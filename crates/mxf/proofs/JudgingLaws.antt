@@ -4,7 +4,7 @@
 -- Assumes nothing.
 use Prim.Native.Nat.{ℕ, suc, _+_, _-_, _*_, _≤_, _<_}
 use mathlib.Core.Path.{_≡_, refl, sym, ap, _∙_, subst}
-use mathlib.Core.Bool.{Bool, true, false, cond, not, _&&_}
+use mathlib.Core.Bool.{Bool, true, false, cond, not, _&&_, _||_}
 use mathlib.Core.Logic.{_⊎_, ⊎-elim}
 use mathlib.Core.List.{List}
 use native.Mathlib.Nat.{add-zero, sub-zero}
@@ -21,7 +21,7 @@ use Rattle.rules.specs.Sheet.{sheetOf}
 use Rattle.rules.specs.Numbers.{Outcome, listed, refused, also}
 use Rattle.rules.proofs.Basics.{second-false, rest-part}
 use Rattle.rules.proofs.Sheets.{sheet-length}
-use Rattle.mxf.specs.Element.{eight, key, wrapping}
+use Rattle.mxf.specs.Element.{Coding, eight, luma as lumaOf, colour as colourOf, key, wrapping}
 use Rattle.mxf.specs.Judging.{
   twoIn,
   threeIn,
@@ -149,20 +149,24 @@ module _ (e : List ℕ) (n : ℕ) (found : (o : Outcome) → keyThen 0 key e o �
 
 -- ---- a structure's front
 
-module _ (sys last at : ℕ) (s : List ℕ) (pos : 0 < at) (is : last ≡ system sys .last) (o : Outcome) where
-  pub line-missing : length s < 2 → frontThen eight sys at s o ≡ faultOr 0 (at + length s) o
+either-second : (a b : Bool) → b ≡ true → (a || b) ≡ true
+either-second true b e = refl
+either-second false b e = e
+
+module _ (c : Coding) (sys last at : ℕ) (s : List ℕ) (pos : 0 < at) (is : last ≡ system sys .last) (o : Outcome) where
+  pub line-missing : length s < 2 → frontThen c sys at s o ≡ faultOr 0 (at + length s) o
   unfolding frontThen
   line-missing l = missing 0 at s 2 _ o (at + length s) refl (λ z. omega arith) l
 
   module _ (l2 : 2 ≤ length s) where
-    line-wrong : inFrame (system sys) (twoIn s 0) ≡ false → frontThen eight sys at s o ≡ faultOr 0 at o
+    line-wrong : inFrame (system sys) (twoIn s 0) ≡ false → frontThen c sys at s o ≡ faultOr 0 at o
     unfolding frontThen
     line-wrong w = wrong 0 at s 0 2 _ _ o at (omega arith) (λ z. omega arith) l2 w
 
-    pub line-none : twoIn s 0 ≡ 0 → frontThen eight sys at s o ≡ faultOr 0 at o
+    pub line-none : twoIn s 0 ≡ 0 → frontThen c sys at s o ≡ faultOr 0 at o
     line-none z = line-wrong (rw (eq-eqb (twoIn s 0) 0 z))
 
-    pub line-past : last < twoIn s 0 → frontThen eight sys at s o ≡ faultOr 0 at o
+    pub line-past : last < twoIn s 0 → frontThen c sys at s o ≡ faultOr 0 at o
     unfolding stands
     line-past p =
         line-wrong (second-false (not (eqb (twoIn s 0) 0)) (stands (system sys) (twoIn s 0)) (rw (← is) (lt-leb (twoIn s 0) last p)))
@@ -172,38 +176,39 @@ module _ (sys last at : ℕ) (s : List ℕ) (pos : 0 < at) (is : last ≡ system
       unfolding stands
       in-frame = rw (ne-eqb (twoIn s 0) 0 some, ← is) (le-leb (twoIn s 0) last within)
 
-      from-wrapping : frontThen eight sys at s o ≡ field at s 2 1 (eqb (getD s 2 0) (wrapping sys)) (field at s 3 1 (isCoding eight (getD s 3 0)) o)
+      from-wrapping : frontThen c sys at s o ≡ field at s 2 1 (eqb (getD s 2 0) (wrapping sys)) (field at s 3 1 (isCoding c (getD s 3 0)) o)
       unfolding frontThen
       from-wrapping = right at s 0 2 _ _ l2 in-frame
 
-      pub wrapping-missing : length s < 3 → frontThen eight sys at s o ≡ faultOr 0 (at + length s) o
+      pub wrapping-missing : length s < 3 → frontThen c sys at s o ≡ faultOr 0 (at + length s) o
       wrapping-missing l = from-wrapping ∙ missing 0 at s 3 _ o (at + length s) refl (λ z. omega arith) l
 
       module _ (l3 : 3 ≤ length s) (w : ℕ) (wraps : w ≡ wrapping sys) where
-        pub wrapping-wrong : (getD s 2 0 ≡ w → ⊥) → frontThen eight sys at s o ≡ faultOr 0 (at + 2) o
+        pub wrapping-wrong : (getD s 2 0 ≡ w → ⊥) → frontThen c sys at s o ≡ faultOr 0 (at + 2) o
         wrapping-wrong h =
             from-wrapping
             ∙ wrong 0 at s 2 1 _ _ o (at + 2) refl (λ z. omega arith) l3 (ne-eqb (getD s 2 0) (wrapping sys) (λ z. h (z ∙ sym wraps)))
 
         module _ (wrapped : getD s 2 0 ≡ w) where
-          from-coding : frontThen eight sys at s o ≡ field at s 3 1 (isCoding eight (getD s 3 0)) o
+          from-coding : frontThen c sys at s o ≡ field at s 3 1 (isCoding c (getD s 3 0)) o
           from-coding = from-wrapping ∙ right at s 2 1 _ _ l3 (eq-eqb (getD s 2 0) (wrapping sys) (wrapped ∙ wraps))
 
-          pub coding-missing : length s < 4 → frontThen eight sys at s o ≡ faultOr 0 (at + length s) o
+          pub coding-missing : length s < 4 → frontThen c sys at s o ≡ faultOr 0 (at + length s) o
           coding-missing l = from-coding ∙ missing 0 at s 4 _ o (at + length s) refl (λ z. omega arith) l
 
           module _ (l4 : 4 ≤ length s) where
-            pub coding-wrong : (getD s 3 0 ≡ 4 → ⊥) → (getD s 3 0 ≡ 5 → ⊥) → frontThen eight sys at s o ≡ faultOr 0 (at + 3) o
+            pub coding-wrong : (getD s 3 0 ≡ lumaOf c → ⊥) → (getD s 3 0 ≡ colourOf c → ⊥) → frontThen c sys at s o ≡ faultOr 0 (at + 3) o
             coding-wrong h k =
                 from-coding
-                ∙ wrong 0 at s 3 1 (isCoding eight (getD s 3 0)) o o (at + 3) refl (λ z. omega arith) l4
-                (rw (ne-eqb (getD s 3 0) 4 h, ne-eqb (getD s 3 0) 5 k))
+                ∙ wrong 0 at s 3 1 (isCoding c (getD s 3 0)) o o (at + 3) refl (λ z. omega arith) l4
+                (rw (ne-eqb (getD s 3 0) (lumaOf c) h, ne-eqb (getD s 3 0) (colourOf c) k))
 
-            pub luma : getD s 3 0 ≡ 4 → frontThen eight sys at s o ≡ o
-            luma h = from-coding ∙ right at s 3 1 (isCoding eight (getD s 3 0)) o l4 (rw (eq-eqb (getD s 3 0) 4 h))
+            pub luma : getD s 3 0 ≡ lumaOf c → frontThen c sys at s o ≡ o
+            luma h = from-coding ∙ right at s 3 1 (isCoding c (getD s 3 0)) o l4 (rw (eq-eqb (getD s 3 0) (lumaOf c) h))
 
-            pub colour : getD s 3 0 ≡ 5 → frontThen eight sys at s o ≡ o
-            colour h = from-coding ∙ right at s 3 1 (isCoding eight (getD s 3 0)) o l4 (rw h)
+            pub colour : getD s 3 0 ≡ colourOf c → frontThen c sys at s o ≡ o
+            colour h = from-coding ∙ right at s 3 1 (isCoding c (getD s 3 0)) o l4
+                (either-second (eqb (getD s 3 0) (lumaOf c)) (eqb (getD s 3 0) (colourOf c)) (eq-eqb (getD s 3 0) (colourOf c) h))
 
 -- ---- its array
 
@@ -282,8 +287,8 @@ passes sys last s is some within wrapped coded w most single at o =
     let d = w .dc in
     let next : Outcome = arrayThen eight (22 + at) s o in
     ⊎-elim
-    (luma sys last (22 + at) s (omega arith) is next (omega arith) some within (omega arith) _ refl wrapped (omega arith))
-    (colour sys last (22 + at) s (omega arith) is next (omega arith) some within (omega arith) _ refl wrapped (omega arith))
+    (luma eight sys last (22 + at) s (omega arith) is next (omega arith) some within (omega arith) _ refl wrapped (omega arith))
+    (colour eight sys last (22 + at) s (omega arith) is next (omega arith) some within (omega arith) _ refl wrapped (omega arith))
     coded
     ∙ array-right (22 + at) s (omega arith) o (omega arith) (omega arith) most (omega arith) b a single d
 

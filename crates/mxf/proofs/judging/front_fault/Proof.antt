@@ -1,6 +1,6 @@
 -- `mxf::judging::front_fault` meets its contract: line, wrapping and coding, each missing, wrong or right. Assumes nothing.
 use Prim.Native.Nat.{ℕ, _≤_}
-use mathlib.Core.Path.{_≡_}
+use mathlib.Core.Path.{_≡_, sym, _∙_}
 use mathlib.Core.Logic.{⊎-elim}
 use mathlib.Core.List.{List}
 use native.Mathlib.Omega.{arith}
@@ -45,7 +45,7 @@ add-missing : tie.Need-add-missing
 add-missing c = search needs
 
 returns : tie.Need-returns
-returns c e o = line-missing _ _ _ _ (c .before .before .pre .0) e o (c .if1 .taken)
+returns c k p q e o = line-missing k _ _ _ _ (c .before .before .pre .0) e o (c .if1 .taken)
 
 two-requires : tie.Need-two-requires
 two-requires c κs = search needs
@@ -54,20 +54,20 @@ cast-if3 : tie.Need-cast-if3
 cast-if3 c = search needs
 
 returns-2 : tie.Need-returns-2
-returns-2 c e o =
+returns-2 c k p q e o =
     let t = c .before .two .ensures .0 in
     let l = c .before .before .if1 .left in
     let pos = c .before .before .before .before .pre .0 in
     ⊎-elim
-    (λ w. let m = w .taken in line-none _ _ _ _ pos e o l (omega arith))
-    (λ w. let m = w .2 .taken in line-past _ _ _ _ pos e o l (omega (arith, ltb-true)))
+    (λ w. let m = w .taken in line-none k _ _ _ _ pos e o l (omega arith))
+    (λ w. let m = w .2 .taken in line-past k _ _ _ _ pos e o l (omega (arith, ltb-true)))
     (c .if2 .came)
 
 returns-3 : tie.Need-returns-3
-returns-3 c e o =
+returns-3 c k p q e o =
     let d : tie.Else3 = c .before in
     let f = d .before .before .before .before in
-    wrapping-missing _ _ _ _ (f .before .before .pre .0) e o (f .if1 .left) (some d) (within d) (c .if4 .taken)
+    wrapping-missing k _ _ _ _ (f .before .before .pre .0) e o (f .if1 .left) (some d) (within d) (c .if4 .taken)
 
 shared-slice-read-if5 : tie.Need-shared-slice-read-if5
 shared-slice-read-if5 c = search needs
@@ -79,19 +79,19 @@ add-result : tie.Need-add-result
 add-result c = search needs
 
 returns-4 : tie.Need-returns-4
-returns-4 c e o =
+returns-4 c k p q e o =
     let w = c .before in
     let d : tie.Else3 = w .before .before .before in
     let f = d .before .before .before .before in
-    wrapping-wrong _ _ _ _ (f .before .before .pre .0) e o (f .if1 .left) (some d) (within d) (w .before .before .if4 .left) _
+    wrapping-wrong k _ _ _ _ (f .before .before .pre .0) e o (f .if1 .left) (some d) (within d) (w .before .before .if4 .left) _
     (w .wrapping .ensures) (c .if5 .taken)
 
 returns-5 : tie.Need-returns-5
-returns-5 c e o =
+returns-5 c k p q e o =
     let w = c .before .before in
     let d : tie.Else3 = w .before .before .before in
     let f = d .before .before .before .before in
-    coding-missing _ _ _ _ (f .before .before .pre .0) e o (f .if1 .left) (some d) (within d) (w .before .before .if4 .left) _
+    coding-missing k _ _ _ _ (f .before .before .pre .0) e o (f .if1 .left) (some d) (within d) (w .before .before .if4 .left) _
     (w .wrapping .ensures) (c .before .if5 .left) (c .if6 .taken)
 
 shared-slice-read-if7 : tie.Need-shared-slice-read-if7
@@ -104,17 +104,17 @@ add-result-2 : tie.Need-add-result-2
 add-result-2 c = search needs
 
 returns-6 : tie.Need-returns-6
-returns-6 c e o =
+returns-6 c k p q e o =
     let m = c .before .before .before .before in
     let w = m .before .before in
     let d : tie.Else3 = w .before .before .before in
     let f = d .before .before .before .before in
-    coding-wrong _ _ _ _ (f .before .before .pre .0) e o (f .if1 .left) (some d) (within d) (w .before .before .if4 .left) _
-    (w .wrapping .ensures) (m .before .if5 .left) (m .if6 .left) (c .before .before .if7 .taken)
-    (eqb-false _ _ (not-true _ (c .if8 .taken)))
+    coding-wrong k _ _ _ _ (f .before .before .pre .0) e o (f .if1 .left) (some d) (within d) (w .before .before .if4 .left) _
+    (w .wrapping .ensures) (m .before .if5 .left) (m .if6 .left) (λ z. c .before .before .if7 .taken (z ∙ sym p))
+    (λ z. eqb-false _ _ (not-true _ (c .if8 .taken)) (z ∙ sym q))
 
 returns-7 : tie.Need-returns-7
-returns-7 c e o =
+returns-7 c k p q e o =
     let m = c .before .before in
     let w = m .before .before in
     let d : tie.Else3 = w .before .before .before in
@@ -124,8 +124,8 @@ returns-7 c e o =
     let r = m .before .if5 .left in
     let g = w .before .before .if4 .left in
     ⊎-elim
-    (λ x. colour _ _ _ _ pos e o l (some d) (within d) g _ (w .wrapping .ensures) r (m .if6 .left) (eqb-true _ _ (not-false _ (x .2 .left))))
-    (λ x. luma _ _ _ _ pos e o l (some d) (within d) g _ (w .wrapping .ensures) r (m .if6 .left) (x .left))
+    (λ x. colour k _ _ _ _ pos e o l (some d) (within d) g _ (w .wrapping .ensures) r (m .if6 .left) (eqb-true _ _ (not-false _ (x .2 .left)) ∙ q))
+    (λ x. luma k _ _ _ _ pos e o l (some d) (within d) g _ (w .wrapping .ensures) r (m .if6 .left) (x .left ∙ p))
     (c .if7 .came)
 
 pub front-fault-spec : {M : Type 1} → statement M
