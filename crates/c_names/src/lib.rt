@@ -10,6 +10,7 @@ use rules::Step;
 ghost use mathlib.Core.Path.{_≡_};
 ghost use Rattle.rules.specs.Demands.{Judges, Lays, Reads};
 ghost use Rattle.mxf.specs.Demands.{Writes as WritesElement, Reads as ReadsElement};
+ghost use Rattle.mxf10.specs.Demands.{WritesTen, ReadsTen};
 ghost use Rattle.rules.specs.Walker.{walk as walked};
 
 #[no_mangle]
@@ -57,4 +58,23 @@ pub extern "C" fn vanc_mxf_read(
     ensures { λ r. ⌜ ReadsElement system fi (now (element .entry)) (now (sheet .entry)) r (now (sheet .exit)) ⌝ }
 {
     mxf::read(system, fi, element, sheet)
+}
+
+#[no_mangle]
+pub extern "C" fn vanc_mxf_write10(sheet: &[u16], fi: bool, element: &mut [u8]) -> ElementWritten
+    ensures { λ r. ⌜ WritesTen fi (now (sheet .entry)) (now (element .entry)) r (now (element .exit)) ⌝ }
+{
+    mxf10::write(sheet, fi, element)
+}
+
+#[no_mangle]
+pub extern "C" fn vanc_mxf_read10(
+    system: u64,
+    fi: bool,
+    element: &[u8],
+    sheet: &mut [u16],
+) -> ElementRead
+    ensures { λ r. ⌜ ReadsTen system fi (now (element .entry)) (now (sheet .entry)) r (now (sheet .exit)) ⌝ }
+{
+    mxf10::read(system, fi, element, sheet)
 }

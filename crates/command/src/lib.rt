@@ -22,6 +22,33 @@ fn asks_for_help(count: usize) -> bool {
     text::is(&word[..n], b"--help")
 }
 
+// `--ten` behind all other arguments.
+fn ends_in_ten(count: usize) -> bool {
+    if count < 1 {
+        return false;
+    }
+    let mut word = io::buffer();
+    let n = arguments::word(count - 1, &mut word);
+    text::is(&word[..n], b"--ten")
+}
+
+// Of so many words, `--ten` is the last or none of them, so that no file is named so where another argument was forgotten.
+fn write_element(count: usize) -> i32 {
+    let ten = count == 6;
+    if ends_in_ten(count) != ten {
+        return names::say_usage(Command::MxfWrite);
+    }
+    mxf_write::run(ten)
+}
+
+fn read_element(count: usize) -> i32 {
+    let ten = count == 7;
+    if ends_in_ten(count) != ten {
+        return names::say_usage(Command::MxfRead);
+    }
+    mxf_read::run(ten)
+}
+
 fn run(c: Command, name: &[u8], count: usize) -> i32 {
     if !names::takes(c, count) {
         return names::say_usage(c);
@@ -30,8 +57,8 @@ fn run(c: Command, name: &[u8], count: usize) -> i32 {
         Command::List => list::run(count),
         Command::Lay => lay::run(),
         Command::Read => read::run(),
-        Command::MxfWrite => mxf_write::run(),
-        Command::MxfRead => mxf_read::run(),
+        Command::MxfWrite => write_element(count),
+        Command::MxfRead => read_element(count),
         Command::Help => help::run(count),
         Command::HelpOption => help::overview(),
         Command::Version => help::version(),

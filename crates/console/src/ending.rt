@@ -47,6 +47,12 @@ fn printed_refusal(number: u64, place: u64) -> i32 {
     printed(&line[..n], REFUSED, b"")
 }
 
+fn printed_refusal_with_word(number: u64, place: u64, word: u64) -> i32 {
+    let mut line = [0u8; 96];
+    let n = text::put_refusal_with_word(&mut line, number, place, word);
+    printed(&line[..n], REFUSED, b"")
+}
+
 // A refusal of what is no sheet, by a call that gives back no word.
 pub fn refused(what: &[u8], number: u64, place: u64) -> i32 {
     let none = [0u16; 0];
@@ -73,9 +79,7 @@ pub fn refused_with_word(
 ) -> i32 {
     let numbers = &s[..];
     say_refusal(what, number, place, word, numbers);
-    let mut line = [0u8; 96];
-    let n = text::put_refusal_with_word(&mut line, number, place, word);
-    printed(&line[..n], REFUSED, b"")
+    printed_refusal_with_word(number, place, word)
 }
 
 pub fn say_length(name: &[u8]) {
@@ -99,4 +103,24 @@ pub fn sheet_refused(
         say_length(name);
     }
     status
+}
+
+// The same of a sheet file that was taken as found (document 02, A13).
+pub fn found_refused(
+    name: &[u8],
+    file: &[u8],
+    number: u64,
+    place: u64,
+    word: u64,
+    s: &[u16; NUMBERS],
+) -> i32 {
+    if number != 8 {
+        return sheet_refused(name, file, number, place, word, s);
+    }
+    let numbers = &s[..];
+    let mut why = [0u8; 256];
+    let a = text::put_text(&mut why, 0, b": ");
+    let n = refusals::put_found_fault(&mut why, a, place, word, numbers);
+    files::say(name, &why[..n]);
+    printed_refusal_with_word(number, place, word)
 }

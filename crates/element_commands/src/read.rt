@@ -1,4 +1,4 @@
-// vanc mxf-read SYSTEM FI ELEMENT SHEET: reads the packets of the ANC element (ST 436-1) that is in a file to a sheet file. The sheet file is made or
+// vanc mxf-read SYSTEM FI ELEMENT SHEET [--ten]: reads the packets of the ANC element (ST 436-1) that is in a file to a sheet file. The sheet file is made or
 // replaced whole, and only when the element is read.
 use console::arguments;
 use console::arguments::NOT_A_NUMBER;
@@ -10,8 +10,8 @@ use file_status::Known;
 use mxf::ElementRead;
 use sheet_file::NUMBERS;
 
-// The bytes of the longest element file that is read. The longest element without padding that has a sheet file is of 42,986; the rest of the
-// room is for padding.
+// The bytes of the longest element file that is read. The longest element without padding that has a sheet file is of 42,986, or of 56,456 with
+// ten-bit samples; the rest of the room is for padding.
 const LONGEST: usize = 262144;
 
 // A longer sheet than a sheet file can have, which no command would take, is 17.
@@ -30,7 +30,23 @@ fn refuse(r: ElementRead, system: u64, element: &[u8], bytes: &[u8], sheet: &[u8
     status
 }
 
+// Ten bits as found (document 02, A13), or 8.
+fn read_element(
+    ten: bool,
+    system: u64,
+    fi: bool,
+    bytes: &[u8],
+    s: &mut [u16; NUMBERS],
+    file: &mut [u8; sheet_file::LONGEST],
+) -> ElementRead {
+    if ten {
+        return file_codec::read_element10(system, fi, bytes, s, file);
+    }
+    file_codec::read_element(system, fi, bytes, s, file)
+}
+
 fn read_and_replace(
+    ten: bool,
     system: u64,
     fi: bool,
     element: &[u8],
@@ -41,7 +57,7 @@ fn read_and_replace(
 ) -> i32 {
     let mut s = [0u16; NUMBERS];
     let mut file = [0u8; sheet_file::LONGEST];
-    let r = file_codec::read_element(system, fi, bytes, &mut s, &mut file);
+    let r = read_element(ten, system, fi, bytes, &mut s, &mut file);
     if r.number != 0 {
         return refuse(r, system, element, bytes, sheet);
     }
@@ -60,7 +76,7 @@ fn read_and_replace(
 }
 
 // One byte more than the longest element file is read, so that a longer file is seen to be longer.
-fn read_files(system: u64, fi: bool, element: &[u8], sheet: &[u8]) -> i32 {
+fn read_files(ten: bool, system: u64, fi: bool, element: &[u8], sheet: &[u8]) -> i32 {
     let mut path = io::buffer();
     let mut bytes = [0u8; LONGEST + 1];
     let j = files::begin(element, sheet, &mut path, &mut bytes);
@@ -74,10 +90,10 @@ fn read_files(system: u64, fi: bool, element: &[u8], sheet: &[u8]) -> i32 {
         files::say(element, b": longer than the 262144 bytes that are read");
         return FAILED;
     }
-    read_and_replace(system, fi, element, &bytes[..n], sheet, &path[..p], is)
+    read_and_replace(ten, system, fi, element, &bytes[..n], sheet, &path[..p], is)
 }
 
-pub fn run() -> i32 {
+pub fn run(ten: bool) -> i32 {
     let system = arguments::system(2);
     let fi = arguments::fi(3);
     let mut element = io::buffer();
@@ -87,5 +103,5 @@ pub fn run() -> i32 {
     if system == NOT_A_NUMBER || fi == NOT_A_NUMBER || n == 0 || m == 0 {
         return FAILED;
     }
-    read_files(system, fi == 1, &element[..n], &sheet[..m])
+    read_files(ten, system, fi == 1, &element[..n], &sheet[..m])
 }

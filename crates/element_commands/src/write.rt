@@ -1,4 +1,4 @@
-// vanc mxf-write FI SHEET ELEMENT: writes the ANC element (ST 436-1) of the packets of a sheet file. The element file is made or replaced whole, and
+// vanc mxf-write FI SHEET ELEMENT [--ten]: writes the ANC element (ST 436-1) of the packets of a sheet file. The element file is made or replaced whole, and
 // only when the element is written.
 use console::arguments;
 use console::arguments::NOT_A_NUMBER;
@@ -10,11 +10,34 @@ use frame::LIMIT;
 use mxf::ElementWritten;
 use sheet_file::NUMBERS;
 
-// The bytes of the longest element that a sheet file gives. It has 22, one for each word and 10 for each packet, and a sheet of P packets has
-// 4 + 2P numbers beside its words: so it is the longest sheet's with the most packets.
-const LONGEST: usize = 22 + (NUMBERS - 4 - 2 * LIMIT) + 10 * LIMIT;
+// The bytes of the longest element that a sheet file gives. It is one of ten-bit samples: 22, 14 for each packet, and for each four bytes for three
+// of DC + 4 samples or a part of three, which is at most DC + 6 by three. A sheet of P packets has 4 + 2P numbers beside its words, and these are
+// DC + 7 each: so it is the longest sheet's with the most packets, of 56,456 bytes. One of 8-bit samples has 42,986 at most.
+const LONGEST: usize = 22 + 14 * LIMIT + 4 * ((NUMBERS - 4 - 3 * LIMIT) / 3);
+
+// Ten bits as found (document 02, A13), or 8.
+fn write_element(
+    ten: bool,
+    file: &[u8],
+    fi: bool,
+    s: &mut [u16; NUMBERS],
+    bytes: &mut [u8; LONGEST],
+) -> ElementWritten {
+    if ten {
+        return file_codec::write_element10(file, fi, s, bytes);
+    }
+    file_codec::write_element(file, fi, s, bytes)
+}
+
+fn refuse(ten: bool, r: ElementWritten, sheet: &[u8], file: &[u8], s: &[u16; NUMBERS]) -> i32 {
+    if ten {
+        return ending::found_refused(sheet, file, r.number, r.place, r.word, s);
+    }
+    ending::sheet_refused(sheet, file, r.number, r.place, r.word, s)
+}
 
 fn write_and_replace(
+    ten: bool,
     fi: bool,
     sheet: &[u8],
     file: &[u8],
@@ -24,9 +47,9 @@ fn write_and_replace(
 ) -> i32 {
     let mut s = [0u16; NUMBERS];
     let mut bytes = [0u8; LONGEST];
-    let r = file_codec::write_element(file, fi, &mut s, &mut bytes);
+    let r = write_element(ten, file, fi, &mut s, &mut bytes);
     if r.number != 0 {
-        return ending::sheet_refused(sheet, file, r.number, r.place, r.word, &s);
+        return refuse(ten, r, sheet, file, &s);
     }
     if !files::replace_by_first(element, path, is, &bytes, r.bytes) {
         return FAILED;
@@ -43,7 +66,7 @@ fn write_and_replace(
 }
 
 // One byte more than the longest sheet file is read, so that a longer file is seen to be longer.
-fn write_files(fi: bool, sheet: &[u8], element: &[u8]) -> i32 {
+fn write_files(ten: bool, fi: bool, sheet: &[u8], element: &[u8]) -> i32 {
     let mut path = io::buffer();
     let mut file = [0u8; sheet_file::LONGEST + 1];
     let j = files::begin(sheet, element, &mut path, &mut file);
@@ -53,10 +76,10 @@ fn write_files(fi: bool, sheet: &[u8], element: &[u8]) -> i32 {
     let p = j.path;
     let n = j.bytes;
     let is = j.is;
-    write_and_replace(fi, sheet, &file[..n], element, &path[..p], is)
+    write_and_replace(ten, fi, sheet, &file[..n], element, &path[..p], is)
 }
 
-pub fn run() -> i32 {
+pub fn run(ten: bool) -> i32 {
     let fi = arguments::fi(2);
     let mut sheet = io::buffer();
     let n = arguments::path(3, b"SHEET", &mut sheet);
@@ -65,5 +88,5 @@ pub fn run() -> i32 {
     if fi == NOT_A_NUMBER || n == 0 || m == 0 {
         return FAILED;
     }
-    write_files(fi == 1, &sheet[..n], &element[..m])
+    write_files(ten, fi == 1, &sheet[..n], &element[..m])
 }

@@ -6,6 +6,7 @@ ghost use lib.ListN.{length, take};
 ghost use Rattle.rules.specs.Demands.{Lays, Reads};
 ghost use Rattle.rules.specs.Lister.{fileOf};
 ghost use Rattle.mxf.specs.Demands.{Writes as WritesElement, Reads as ReadsElement};
+ghost use Rattle.mxf10.specs.Demands.{WritesTen, ReadsTen};
 ghost use Rattle.sheet_file.specs.Files.{sheetIn};
 
 pub mod lines;
@@ -52,6 +53,20 @@ pub fn write_element(
     mxf::write(&numbers[..n], fi, element)
 }
 
+// The same of ten-bit samples, as found (document 02, A13).
+pub fn write_element10(
+    file: &[u8],
+    fi: bool,
+    s: &mut [u16; NUMBERS],
+    element: &mut [u8],
+) -> ElementWritten
+    ensures { λ r. ⌜ WritesTen fi (sheetIn (now (file .entry))) (now (element .entry)) r (now (element .exit)) ⌝ }
+{
+    let n = sheet_file::decode(file, s);
+    let numbers = &s[..];
+    mxf10::write(&numbers[..n], fi, element)
+}
+
 // An element's packets as a sheet, and the bytes of its file.
 pub fn read_element(
     system: u64,
@@ -66,6 +81,25 @@ pub fn read_element(
     ensures { λ r. ⌜ r .numbers ≤ length (now (s .exit)) ⌝ }
 {
     let r = mxf::read(system, fi, element, s);
+    let n = r.numbers as usize;
+    sheet_file::encode_first(s, n, file);
+    r
+}
+
+// The same of ten-bit samples, as found (document 02, A13).
+pub fn read_element10(
+    system: u64,
+    fi: bool,
+    element: &[u8],
+    s: &mut [u16],
+    file: &mut [u8],
+) -> ElementRead
+    requires { ⌜ 2 * length (now s) ≤ length (now file) ⌝ }
+    ensures { λ r. ⌜ ReadsTen system fi (now (element .entry)) (now (s .entry)) r (now (s .exit))
+        × (take (2 * r .numbers) (now (file .exit)) ≡ fileOf (take (r .numbers) (now (s .exit)))) ⌝ }
+    ensures { λ r. ⌜ r .numbers ≤ length (now (s .exit)) ⌝ }
+{
+    let r = mxf10::read(system, fi, element, s);
     let n = r.numbers as usize;
     sheet_file::encode_first(s, n, file);
     r

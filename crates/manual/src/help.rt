@@ -26,6 +26,8 @@ fn write_overview(fd: i32) -> bool {
         \x20 vanc help NAME, vanc NAME --help         says more of a command\n\
         \x20 vanc help refusals                       says the numbers of refusals in words\n\
         \x20 vanc --version                           says the version\n\n\
+        With --ten behind its arguments, mxf-write or mxf-read takes samples of ten bits: packets as\n\
+        they are found, damaged ones too.\n\
         A refusal prints its number and its place (refused 14 at 1). In list, lay and mxf-write the\n\
         packet's word at fault stands behind them, or 0 (refused 8 at 31 6). Standard error says\n\
         what is wrong, and what stands in that word. Then no file is changed; a file is replaced\n\
@@ -83,21 +85,24 @@ fn page_of_read() -> i32 {
 
 fn page_of_mxf_write() -> i32 {
     print(
-        b"usage: vanc mxf-write FI SHEET ELEMENT\n\n\
+        b"usage: vanc mxf-write FI SHEET ELEMENT [--ten]\n\n\
         Writes the packets of the sheet file SHEET as an MXF ANC element (SMPTE ST 436-1) to the\n\
         file ELEMENT, which is made or replaced.\n\
-        FI is 0 or 1: of a 720/60p sheet the packets with that FI are written, of a 1080 sheet all.\n\n\
+        FI is 0 or 1: of a 720/60p sheet the packets with that FI are written, of a 1080 sheet all.\n\
+        --ten: samples of ten bits, from DID to the checksum word. The packets are taken as they\n\
+        are found: parity and checksum are kept and not tested, and 8 is a word over 3FFh.\n\n\
         Prints: written packets N bytes N\n",
     )
 }
 
 fn page_of_mxf_read() -> i32 {
     print(
-        b"usage: vanc mxf-read SYSTEM FI ELEMENT SHEET\n\n\
+        b"usage: vanc mxf-read SYSTEM FI ELEMENT SHEET [--ten]\n\n\
         Reads the packets of the MXF ANC element (SMPTE ST 436-1) in the file ELEMENT to the sheet\n\
         file SHEET, which is made or replaced.\n\
         SYSTEM is 1 or 1080/60i, 2 or 1080/50i, 3 or 720/60p.\n\
-        FI is 0 or 1: the packets of a 720/60p element get it, those of a 1080 element get 0.\n\n\
+        FI is 0 or 1: the packets of a 720/60p element get it, those of a 1080 element get 0.\n\
+        --ten: an element of ten-bit samples. Its packets may be damaged: vanc list names the fault.\n\n\
         Prints: read packets N numbers N\n",
     )
 }

@@ -219,6 +219,14 @@ fn put_place(out: &mut [u8], at: usize, number: u64, place: u64, word: u64, shee
     }
 }
 
+// 8 of a sheet that is taken as found (document 02, A13): it says of a word only that it has more than ten bits.
+pub fn put_found_fault(out: &mut [u8], at: usize, place: u64, word: u64, sheet: &[u16]) -> usize
+    ensures { λ r. ⌜ Counts r (now (out .exit)) ⌝ }
+{
+    let a = put_place(out, at, 8, place, word, sheet);
+    text::put_text(out, a, b"a word over 3FFh has more than ten bits")
+}
+
 // Where it is wrong, and what. `sheet` is the one that was refused, and without numbers where none was.
 pub fn put_fault(
     out: &mut [u8],
