@@ -49,7 +49,7 @@ pub fn say_overview() -> i32 {
 
 // The version, which include/vanc.h has too, and the toolchain that all was proved with (TOOLCHAIN).
 pub fn version() -> i32 {
-    print(b"vanc 0.5.0, proved with rattle-kit-5b-plain logic 097e4c862dff5811\n")
+    print(b"vanc 0.6.0, proved with rattle-kit-5b-plain logic 097e4c862dff5811\n")
 }
 
 // ---- a page for each command
