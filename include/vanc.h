@@ -290,8 +290,8 @@ vanc_element_written vanc_mxf_write10(const uint16_t *sheet, size_t sheet_len, b
 
 /*
  * Reads the packets of an element with 10-bit coding into a sheet: their words from DID to CS as they stand, with the parity and the CS that they
- * have, behind 000h 3FFh 3FFh. vanc_test_packet says which of them are sound. The bits and samples that a packet leaves unused in its last four
- * bytes, and padding of any length, may have any values.
+ * have, behind 000h 3FFh 3FFh. vanc_test_packet says which of them are sound. The two low bits of each four bytes, samples that the last four leave
+ * unused, and padding of any length may have any values.
  *
  * Success, `fi` and the refusals (3, 19, 20, 5, 17, in this order) are as for vanc_mxf_read. An element with 8-bit coding is 19 here, and one with
  * 10-bit coding is 19 there, at the coding byte. A DC that does not agree with the number of samples is named by the first of the two bytes that it
