@@ -84,7 +84,7 @@ fn of_sheet(sheet: &[u16], fi: bool, fields: &[u64; 5]) -> Vec<String> {
         let packet = from_packet(sheet, place);
         let dc = (packet[5] & 0xFF) as usize;
         if number == 8 {
-            let at = if word as usize == dc + 6 { 4 } else { (word as usize - 3).min(3) };
+            let at = if word as usize == dc + 6 { 4 } else { (word as usize).saturating_sub(3).min(3) };
             all.push(format!("8 at {}", WORDS[at]));
         }
         if number == 8 && word == 5 && packet.len() < dc + 7 {
@@ -122,7 +122,10 @@ fn field(element: &[u8], ten: bool, place: usize) -> &'static str {
 /// The same behind the head. What stands before the structure at fault is sound, and no structure ends before its DC.
 fn structure_field(element: &[u8], ten: bool, place: usize) -> &'static str {
     let mut at = HEAD;
-    let mut left = u16::from_be_bytes([element[20], element[21]]);
+    let mut left = match element.get(HEAD - 2..HEAD) {
+        Some(n) => u16::from_be_bytes([n[0], n[1]]),
+        None => return "no field",
+    };
     while left > 0 && place > at + FRONT + 2 {
         at += structure_length(&element[at..]);
         left -= 1;
@@ -130,7 +133,7 @@ fn structure_field(element: &[u8], ten: bool, place: usize) -> &'static str {
     let others = if ten { 4..=5 } else { 7..=8 };
     match FIELDS.iter().find(|(start, _)| at + start == place) {
         _ if left == 0 => "surplus bytes",
-        Some((_, "coding")) if others.contains(&element[place]) => "coding of the other call",
+        Some((_, "coding")) if element.get(place).map_or(false, |coding| others.contains(coding)) => "coding of the other call",
         Some((_, name)) => name,
         None => "no field",
     }

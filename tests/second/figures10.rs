@@ -236,8 +236,8 @@ fn sample_counts() {
     }
 }
 
-/// VANC_ELEMENT10_MAX: by the rule, by trying every number of packets with as many threes of user words as they have room for, and as it stands in the
-/// header. Then the call: the longest element, one byte too few, and the sheet that comes back.
+/// VANC_ELEMENT10_MAX: by the rule, by trying every number of packets with as many threes of user words as they have room for, and as it stands in
+/// the header. Then the call: the longest element, one byte too few, and the sheet that comes back.
 #[test]
 fn longest_element() {
     let bytes = |dc: usize| 14 + (TEN.bytes)(dc + 4);
