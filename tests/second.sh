@@ -65,7 +65,7 @@ else
   differs packet.rs 'if checksum !=' 'if system.allows((danc[1] % 16) as u16 * 128 + (danc[0] % 128) as u16) \&\& checksum !='
   differs element.rs 'let coding = fields' 'refuse_if(!system.allows(line as u16), 20, 0)?; let coding = fields'
   # Ten bits as found: CS tested after all, CS over 3FFh taken, the samples from the low end, and DC by all of its ten bits.
-  differs packet.rs 'Ok(words\[3..7 + dc\]' 'packet_in_front(words).map(drop).or_else(|f| if f.number == 10 { Err(f) } else { Ok(()) })?; Ok(words[3..7 + dc]'
+  differs packet.rs 'Ok(words\[3..7 + dc\]' 'match packet_in_front(words) { Err(f) if f.number == 10 => return Err(f), _ => {} }; Ok(words[3..7 + dc]'
   differs packet.rs '6, 7 + dc, has_ten_bits' '6, 6 + dc, has_ten_bits'
   differs element10.rs '22 - 10 \* place' '2 + 10 * place'
   differs element10.rs '\[2\] & 0xFF' '[2] \& 0x3FF'
