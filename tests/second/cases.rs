@@ -139,7 +139,7 @@ pub fn how_many(packets: usize) -> String {
     }
 }
 
-/// More than a third of the cases are of elements, in either coding, and a tenth of packets alone.
+/// More than a third of the cases are of elements, in either coding, and a twelfth of packets alone.
 pub fn make(seed: u64, case: u64) -> Case {
     let mut random = Random::of_case(seed, case);
     match random.weighted(&[230, 230, 86, 90, 100, 80, 90, 100]) {
