@@ -12,4 +12,8 @@ vanc_element_written baseline_mxf_write(const uint16_t *sheet, size_t sheet_len,
 
 vanc_element_read baseline_mxf_read(uint64_t system, bool fi, const uint8_t *element, size_t element_len, uint16_t *sheet, size_t sheet_len);
 
+vanc_element_written baseline_mxf_write10(const uint16_t *sheet, size_t sheet_len, bool fi, uint8_t *element, size_t element_len);
+
+vanc_element_read baseline_mxf_read10(uint64_t system, bool fi, const uint8_t *element, size_t element_len, uint16_t *sheet, size_t sheet_len);
+
 #endif

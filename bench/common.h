@@ -219,7 +219,7 @@ static unsigned take_apart(const uint16_t *sheet, size_t sheet_len, list *found)
  * 6 and 20 of the locations, in one pass: it finds out which faults of lines there are, and the first 20 is looked for only where there is one,
  * since a 6 behind it would come first. Line 0 is no line.
  */
-static vanc_laid locations_refusal(list *sheet)
+static inline vanc_laid locations_refusal(list *sheet)
 {
     const uint16_t *location = sheet->locations, *end = location + 2 * sheet->packets;
     uint16_t last_line = sheet->system->last_line;

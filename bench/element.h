@@ -1,6 +1,8 @@
 /*
  * vanc_mxf_write and vanc_mxf_read (ST 436-1, tables 5 to 7), which both baselines say alike but for the user words. An element may have 65,535
  * words, too many to hold: so the whole of it is tested first, and written then.
+ *
+ * What the ten-bit element (element10.h) has in common with it stands here too; `ten` says which of the two is meant.
  */
 #ifndef ELEMENT_H
 #define ELEMENT_H
@@ -8,7 +10,7 @@
 #include "common.h"
 
 /* Key, length and number of packets; line, wrapping, coding, sample count, array count and array element length in front of a packet's bytes. */
-enum { HEAD = 22, FRONT = 14, LONG_FORM = 0x83, LUMA = 4, COLOUR = 5, MOST_WORDS = 65535 };
+enum { HEAD = 22, FRONT = 14, LONG_FORM = 0x83, LUMA = 4, COLOUR = 5, LUMA10 = 7, COLOUR10 = 8, MOST_WORDS = 65535 };
 
 static const uint8_t key[16] = { 0x06, 0x0E, 0x2B, 0x34, 0x01, 0x02, 0x01, 0x01, 0x0D, 0x01, 0x03, 0x01, 0x17, 0x01, 0x02, 0x01 };
 
@@ -26,6 +28,18 @@ static inline size_t get_16(const uint8_t *from)
 static inline size_t get_32(const uint8_t *from)
 {
     return (size_t)from[0] << 24 | (size_t)from[1] << 16 | (size_t)from[2] << 8 | from[3];
+}
+
+/* Samples that a packet has beside its user words: DID, SDID and DC, and in ten bits CS. */
+static inline size_t beside_user(bool ten)
+{
+    return ten ? 4 : 3;
+}
+
+/* The bytes of so many samples: one each, or four for each three (ST 436-1, 5.4.4). */
+static inline size_t array_size(size_t samples, bool ten)
+{
+    return ten ? (samples + 2) / 3 * 4 : samples;
 }
 
 static vanc_element_written write_refusal(vanc_laid refusal)
@@ -102,6 +116,16 @@ OUT_OF_LINE static void put_structures(const list *sheet, bool fi, uint8_t *to)
     }
 }
 
+/* The head of an element of so many bytes and packets. */
+static inline void put_head(size_t bytes, size_t packets, uint8_t *element)
+{
+    memcpy(element, key, 16);
+    element[16] = LONG_FORM;
+    element[17] = (uint8_t)((bytes - 20) >> 16);
+    put_16(bytes - 20, element + 18);
+    put_16(packets, element + 20);
+}
+
 vanc_element_written baseline_mxf_write(const uint16_t *numbers, size_t count, bool fi, uint8_t *element, size_t element_len)
 {
     list sheet;
@@ -115,11 +139,7 @@ vanc_element_written baseline_mxf_write(const uint16_t *numbers, size_t count, b
     size_t bytes, served = count_served(&sheet, fi, &bytes);
     if (bytes > element_len)
         return write_refusal(lay_refusal(17, 0));
-    memcpy(element, key, 16);
-    element[16] = LONG_FORM;
-    element[17] = (uint8_t)((bytes - 20) >> 16);
-    put_16(bytes - 20, element + 18);
-    put_16(served, element + 20);
+    put_head(bytes, served, element);
     put_structures(&sheet, fi, element + HEAD);
     return (vanc_element_written){ .packets = served, .bytes = bytes };
 }
@@ -139,6 +159,11 @@ static size_t head_fault(const uint8_t *element, size_t length)
     return length < HEAD ? length : HEAD;
 }
 
+static inline bool is_coding(uint8_t coding, bool ten)
+{
+    return ten ? coding == LUMA10 || coding == COLOUR10 : coding == LUMA || coding == COLOUR;
+}
+
 /* Whether a packet of an element is of its form; `left` is how many bytes are left from its first. */
 static inline bool is_structure(const uint8_t *at, size_t left, const frame_system *system)
 {
@@ -150,17 +175,17 @@ static inline bool is_structure(const uint8_t *at, size_t left, const frame_syst
 }
 
 /* The first byte at fault of a packet of an element, which is not of its form, from its first byte; where bytes are missing, as many as are left. */
-OUT_OF_LINE static size_t structure_fault(const uint8_t *at, size_t left, const frame_system *system)
+OUT_OF_LINE static size_t structure_fault(const uint8_t *at, size_t left, const frame_system *system, bool ten)
 {
     if (left < 2 || get_16(at) == 0 || get_16(at) > system->last_line)
         return left < 2 ? left : 0;
     if (left == 2 || at[2] != system->wrapping)
         return 2;
-    if (left == 3 || (at[3] != LUMA && at[3] != COLOUR))
+    if (left == 3 || !is_coding(at[3], ten))
         return 3;
-    if (left < 6 || get_16(at + 4) < 3 || get_16(at + 4) > 258)
+    if (left < 6 || get_16(at + 4) < beside_user(ten) || get_16(at + 4) > beside_user(ten) + 255)
         return left < 6 ? left : 4;
-    if (left < 10 || get_32(at + 6) < get_16(at + 4) || 14 + get_32(at + 6) > left)
+    if (left < 10 || get_32(at + 6) < array_size(get_16(at + 4), ten) || 14 + get_32(at + 6) > left)
         return left < 10 ? left : 6;
     return get_32(at + 10) != 1 ? 10 : FRONT + 2;
 }
@@ -174,6 +199,16 @@ static size_t first_on_picture_line(const uint8_t *at, const uint8_t *line_fault
     return place;
 }
 
+/* 20 and 5 of packets that are of their form, and have so many words; `faults` are those of their lines. Where there is none, what was found. */
+static inline vanc_element_read packets_found(const uint8_t *element, size_t packets, size_t words, uint8_t faults, const frame_system *system)
+{
+    if (faults != 0)
+        return element_refusal(20, first_on_picture_line(element + HEAD, system->line_fault));
+    if (packets > LIMIT)
+        return element_refusal(5, LIMIT);
+    return (vanc_element_read){ .packets = packets, .numbers = words };
+}
+
 /* All tests of an element's packets but 17; where there is no fault, `numbers` is how many words they have. */
 OUT_OF_LINE static vanc_element_read structures_refusal(const uint8_t *element, size_t length, const frame_system *system)
 {
@@ -182,20 +217,14 @@ OUT_OF_LINE static vanc_element_read structures_refusal(const uint8_t *element, 
     uint8_t faults = 0;
     for (size_t k = 0; k < packets; k++) {
         if (!is_structure(at, left, system))
-            return element_refusal(19, length - left + structure_fault(at, left, system));
+            return element_refusal(19, length - left + structure_fault(at, left, system, false));
         faults |= system->line_fault[get_16(at)];
         words += get_16(at + 4) + 4;
         size_t size = FRONT + get_32(at + 6);
         at += size;
         left -= size;
     }
-    if (left > 0)
-        return element_refusal(19, length - left);
-    if (faults != 0)
-        return element_refusal(20, first_on_picture_line(element + HEAD, system->line_fault));
-    if (packets > LIMIT)
-        return element_refusal(5, LIMIT);
-    return (vanc_element_read){ .packets = packets, .numbers = words };
+    return left > 0 ? element_refusal(19, length - left) : packets_found(element, packets, words, faults, system);
 }
 
 OUT_OF_LINE static void put_element_sheet(const uint8_t *restrict at, size_t packets, uint16_t fi, uint16_t *restrict location,
@@ -209,24 +238,39 @@ OUT_OF_LINE static void put_element_sheet(const uint8_t *restrict at, size_t pac
     }
 }
 
-vanc_element_read baseline_mxf_read(uint64_t system, bool fi, const uint8_t *element, size_t element_len, uint16_t *sheet, size_t sheet_len)
+/* All tests of an element, in their order; `structures` are those of its packets. In line, so that these are called as they stand. */
+static inline __attribute__((always_inline)) vanc_element_read
+element_tested(uint64_t system, const uint8_t *element, size_t length, size_t sheet_len,
+               vanc_element_read (*structures)(const uint8_t *, size_t, const frame_system *))
 {
     if (system < 1 || system > 3)
         return element_refusal(3, 0);
-    size_t place = head_fault(element, element_len);
+    size_t place = head_fault(element, length);
     if (place < HEAD)
         return element_refusal(19, place);
-    vanc_element_read found = structures_refusal(element, element_len, &systems[system]);
+    vanc_element_read found = structures(element, length, &systems[system]);
     if (found.number != 0)
         return found;
     size_t words = found.numbers;
     found.numbers += 4 + 2 * found.packets;
-    if (words > MOST_WORDS || found.numbers > sheet_len)
-        return element_refusal(17, 0);
+    return words > MOST_WORDS || found.numbers > sheet_len ? element_refusal(17, 0) : found;
+}
+
+/* A sheet but for its locations and words. */
+static inline void put_counts(uint64_t system, vanc_element_read found, uint16_t *sheet)
+{
     sheet[0] = 1;
     sheet[1] = (uint16_t)system;
     sheet[2] = (uint16_t)found.packets;
-    sheet[3 + 2 * found.packets] = (uint16_t)words;
+    sheet[3 + 2 * found.packets] = (uint16_t)(found.numbers - 4 - 2 * found.packets);
+}
+
+vanc_element_read baseline_mxf_read(uint64_t system, bool fi, const uint8_t *element, size_t element_len, uint16_t *sheet, size_t sheet_len)
+{
+    vanc_element_read found = element_tested(system, element, element_len, sheet_len, structures_refusal);
+    if (found.number != 0)
+        return found;
+    put_counts(system, found, sheet);
     put_element_sheet(element + HEAD, found.packets, system == 3 && fi, sheet + 3, sheet + 4 + 2 * found.packets);
     return found;
 }

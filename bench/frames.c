@@ -1,8 +1,9 @@
 /*
  * Lays or reads one frame, or writes or reads its element, TIMES times over:
  *
- *     frames lay|read|write-element|read-element SYSTEM PACKING LIST sound|early|late TIMES [time]
+ *     frames CALL SYSTEM PACKING LIST sound|early|late TIMES [time]
  *
+ * CALL     lay, read, write-element, read-element; write-element10, read-element10 for the ten-bit element
  * PACKING  of no effect on an element
  * LIST     the packets, as 23x255+1x160: 23 of 255 user words and one of 160; 0x0 is none
  * early    reading a frame: DID of the first packet is damaged in the area; late: that of the last
@@ -23,15 +24,19 @@
 #define READ baseline_read
 #define WRITE_ELEMENT baseline_mxf_write
 #define READ_ELEMENT baseline_mxf_read
+#define WRITE_ELEMENT10 baseline_mxf_write10
+#define READ_ELEMENT10 baseline_mxf_read10
 #else
 #define LAY vanc_lay
 #define READ vanc_read
 #define WRITE_ELEMENT vanc_mxf_write
 #define READ_ELEMENT vanc_mxf_read
+#define WRITE_ELEMENT10 vanc_mxf_write10
+#define READ_ELEMENT10 vanc_mxf_read10
 #endif
 
-enum { AREA = VANC_AREA_1080_50I, SHEET = VANC_ELEMENT_SHEET_MAX, ELEMENT = VANC_ELEMENT_MAX, NOBODYS = 0xA5 };
-enum { LAYS, READS, WRITES_ELEMENT, READS_ELEMENT };
+enum { AREA = VANC_AREA_1080_50I, SHEET = VANC_ELEMENT_SHEET_MAX, ELEMENT = VANC_ELEMENT10_MAX, NOBODYS = 0xA5 };
+enum { LAYS, READS, WRITES_ELEMENT, READS_ELEMENT, WRITES_ELEMENT10, READS_ELEMENT10 };
 
 static uint16_t sheet[SHEET], back[SHEET];
 static uint8_t area[AREA], element[ELEMENT];
@@ -187,12 +192,30 @@ static void read_times(uint64_t system, long times)
     printf("%lu %lu %lu %lu %lu %016lx\n", r.number, r.place, r.packing, r.packets, r.numbers, hash(back, sizeof back));
 }
 
+static void print_written(vanc_element_written r)
+{
+    printf("%lu %lu %lu %lu %lu %016lx\n", r.number, r.place, r.word, r.packets, r.bytes, hash(element, sizeof element));
+}
+
 static void write_times(long times)
 {
     vanc_element_written r = { 0 };
     for (long k = 0; k < times; k++)
         r = WRITE_ELEMENT(sheet, 4 + 2 * packets + words, false, element, ELEMENT);
-    printf("%lu %lu %lu %lu %lu %016lx\n", r.number, r.place, r.word, r.packets, r.bytes, hash(element, sizeof element));
+    print_written(r);
+}
+
+static void write10_times(long times)
+{
+    vanc_element_written r = { 0 };
+    for (long k = 0; k < times; k++)
+        r = WRITE_ELEMENT10(sheet, 4 + 2 * packets + words, false, element, ELEMENT);
+    print_written(r);
+}
+
+static void print_element_read(vanc_element_read r)
+{
+    printf("%lu %lu %lu %lu %016lx\n", r.number, r.place, r.packets, r.numbers, hash(back, sizeof back));
 }
 
 static void read_element_times(uint64_t system, long times)
@@ -200,7 +223,15 @@ static void read_element_times(uint64_t system, long times)
     vanc_element_read r = { 0 };
     for (long k = 0; k < times; k++)
         r = READ_ELEMENT(system, false, element, element_size, back, SHEET);
-    printf("%lu %lu %lu %lu %016lx\n", r.number, r.place, r.packets, r.numbers, hash(back, sizeof back));
+    print_element_read(r);
+}
+
+static void read_element10_times(uint64_t system, long times)
+{
+    vanc_element_read r = { 0 };
+    for (long k = 0; k < times; k++)
+        r = READ_ELEMENT10(system, false, element, element_size, back, SHEET);
+    print_element_read(r);
 }
 
 /* What reading reads: the area, damaged where that is asked for. */
@@ -212,9 +243,10 @@ static void make_area(uint64_t packing, const char *state)
         damage(packing, strcmp(state, "early") == 0 ? 0 : last_packet);
 }
 
-static void make_element(void)
+static void make_element(bool ten)
 {
-    vanc_element_written r = WRITE_ELEMENT(sheet, 4 + 2 * packets + words, false, element, ELEMENT);
+    size_t length = 4 + 2 * packets + words;
+    vanc_element_written r = ten ? WRITE_ELEMENT10(sheet, length, false, element, ELEMENT) : WRITE_ELEMENT(sheet, length, false, element, ELEMENT);
     if (r.number != 0)
         fail("the list is not written");
     element_size = r.bytes;
@@ -222,8 +254,8 @@ static void make_element(void)
 
 static int call_of(const char *name)
 {
-    static const char *const names[] = { "lay", "read", "write-element", "read-element" };
-    for (int call = LAYS; call <= READS_ELEMENT; call++)
+    static const char *const names[] = { "lay", "read", "write-element", "read-element", "write-element10", "read-element10" };
+    for (int call = LAYS; call <= READS_ELEMENT10; call++)
         if (strcmp(name, names[call]) == 0)
             return call;
     fail("no such call");
@@ -233,7 +265,7 @@ static int call_of(const char *name)
 int main(int argc, char **argv)
 {
     if (argc != 7 && argc != 8)
-        fail("frames lay|read|write-element|read-element SYSTEM PACKING LIST sound|early|late TIMES [time]");
+        fail("frames CALL SYSTEM PACKING LIST sound|early|late TIMES [time]");
     uint64_t system = strtoul(argv[2], NULL, 10), packing = strtoul(argv[3], NULL, 10);
     long times = strtol(argv[6], NULL, 10);
     int call = call_of(argv[1]);
@@ -241,11 +273,11 @@ int main(int argc, char **argv)
     area_size = 960 * sequences;
     memset(area, NOBODYS, sizeof area);
     memset(element, NOBODYS, sizeof element);
-    make_sheet(system, argv[4], call == WRITES_ELEMENT || call == READS_ELEMENT);
+    make_sheet(system, argv[4], call >= WRITES_ELEMENT);
     if (call == READS)
         make_area(packing, argv[5]);
-    else if (call == READS_ELEMENT)
-        make_element();
+    else if (call == READS_ELEMENT || call == READS_ELEMENT10)
+        make_element(call == READS_ELEMENT10);
 
     clock_t begun = clock();
     if (call == LAYS)
@@ -254,8 +286,12 @@ int main(int argc, char **argv)
         read_times(system, times);
     else if (call == WRITES_ELEMENT)
         write_times(times);
-    else
+    else if (call == READS_ELEMENT)
         read_element_times(system, times);
+    else if (call == WRITES_ELEMENT10)
+        write10_times(times);
+    else
+        read_element10_times(system, times);
     if (argc == 8)
         printf("%.1f\n", 1e9 * (double)(clock() - begun) / CLOCKS_PER_SEC / (double)times);
     return 0;

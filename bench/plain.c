@@ -2,7 +2,7 @@
  * Laying, reading and elements in plain C: each rule in the loop that says it most directly, with all the tests of the library.
  * One of the two baselines that the library's instructions are compared with.
  */
-#include "element.h"
+#include "element10.h"
 
 static unsigned packet_fault(const uint16_t *words, size_t left)
 {

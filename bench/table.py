@@ -54,6 +54,12 @@ CASES = [
     ("read-element", 2, 0, FULL2, "sound"),
     ("read-element", 2, 0, MORE_CUES, "sound"),
     ("read-element", 2, 0, MOST, "sound"),
+    ("write-element10", 2, 0, TYPICAL, "sound"),
+    ("write-element10", 2, 0, FULL2, "sound"),
+    ("write-element10", 2, 0, MORE_CUES, "sound"),
+    ("read-element10", 2, 0, TYPICAL, "sound"),
+    ("read-element10", 2, 0, FULL2, "sound"),
+    ("read-element10", 2, 0, MORE_CUES, "sound"),
 ]
 # What is not within the bars yet, and what it has reached: it may not get worse than that. A case that comes within its bar leaves this list.
 HELD = {

@@ -2,7 +2,7 @@
  * Laying, reading and elements in C that is written for the compiler's vector code: many words or bytes in passes without a branch, over whole
  * vectors alone, and the few that are left over, or that a small packet has, one by one from a table. All the tests of the library.
  */
-#include "element.h"
+#include "element10.h"
 
 /* From so many words or bytes on, a packet's are computed in vectors. NO_SUM is over all sums. */
 enum { MANY = 16, NO_SUM = 1 << 20 };

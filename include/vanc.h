@@ -87,6 +87,10 @@ extern "C" {
 /* Bytes that the element of every sheet has room in: 22, and for 1,275 packets of 65,535 words together 10 more each than words. */
 #define VANC_ELEMENT_MAX 78307
 
+/* The same for ten-bit elements: 22, and for a packet 14 and 4 for each three samples or fewer, DID to CS. The longest has 1,275 packets of
+ * 65,535 words, each DC a multiple of three. */
+#define VANC_ELEMENT10_MAX 103552
+
 /* Numbers that the sheet of every element has room in: 1,275 locations and 65,535 words. */
 #define VANC_ELEMENT_SHEET_MAX 68089
 
@@ -272,6 +276,28 @@ vanc_element_written vanc_mxf_write(const uint16_t *sheet, size_t sheet_len, boo
  * this order): the buffer is unchanged; with VANC_ELEMENT_SHEET_MAX numbers 17 comes only for over 65,535 words. The element is only read.
  */
 vanc_element_read vanc_mxf_read(uint64_t system, bool fi, const uint8_t *element, size_t element_len, uint16_t *sheet, size_t sheet_len);
+
+/*
+ * Writes a sheet's packets as vanc_mxf_write does, but as they are found, with 10-bit coding: all ten bits of every word from DID to CS, three
+ * words in four bytes, without padding. Parity and CS are not tested and not mended, so damaged packets are kept as they are; DC's low byte says
+ * how many user words a packet has.
+ *
+ * Success and `fi` are as for vanc_mxf_write. Refusal (2, 3, 5, 6, 20, 7 to 9 and 11 for the whole sheet, then 18, then 17): the buffer is
+ * unchanged; 17 cannot come with VANC_ELEMENT10_MAX bytes. 8 is given only for a word over 3FFh, and for CS too (`word` DC + 6), 10 never. Packet by
+ * packet the order is 7; 8 on DID, SDID and DC; 9; 8 on the user words and CS. The sheet is only read.
+ */
+vanc_element_written vanc_mxf_write10(const uint16_t *sheet, size_t sheet_len, bool fi, uint8_t *element, size_t element_len);
+
+/*
+ * Reads the packets of an element with 10-bit coding into a sheet: their words from DID to CS as they stand, with the parity and the CS that they
+ * have, behind 000h 3FFh 3FFh. vanc_test_packet says which of them are sound. The two low bits of each four bytes, samples that the last four leave
+ * unused, and padding of any length may have any values.
+ *
+ * Success, `fi` and the refusals (3, 19, 20, 5, 17, in this order) are as for vanc_mxf_read. An element with 8-bit coding is 19 here, and one with
+ * 10-bit coding is 19 there, at the coding byte. A DC that does not agree with the number of samples is named by the first of the two bytes that it
+ * stands in. The element is only read.
+ */
+vanc_element_read vanc_mxf_read10(uint64_t system, bool fi, const uint8_t *element, size_t element_len, uint16_t *sheet, size_t sheet_len);
 
 #ifdef __cplusplus
 }

@@ -13,7 +13,7 @@ enum { LIMIT = 1275, MORE = 1400, STRING = 8928, MANY = 9362 };
 static uint16_t sheet[4 + 2 * MORE + 7 * MANY];
 static uint16_t back[VANC_ELEMENT_SHEET_MAX];
 static uint8_t area[VANC_AREA_1080_50I];
-static uint8_t element[VANC_ELEMENT_MAX];
+static uint8_t element[VANC_ELEMENT10_MAX];
 /* Where the string bytes of long packs stand in an area of 1080/50i. */
 static size_t places[STRING];
 static unsigned long answers, wrong;
@@ -57,18 +57,37 @@ static size_t make_sheet(unsigned system, size_t locations, size_t packets, size
     return n;
 }
 
-/* The element of such a sheet without user bytes, also where it has too many packets. Its length is given back. */
-static size_t make_element(unsigned system, size_t packets)
+/* The element of such a sheet without user bytes, in 8 bits or ten, also where it has too many packets. Its length is given back. */
+static size_t make_element(unsigned system, size_t packets, bool ten)
 {
     static const uint8_t key[16] = { 0x06, 0x0E, 0x2B, 0x34, 0x01, 0x02, 0x01, 0x01, 0x0D, 0x01, 0x03, 0x01, 0x17, 0x01, 0x02, 0x01 };
-    const uint8_t structure[17] = { 0, 9, system == 3 ? 4 : 1, 5, 0, 3, 0, 0, 0, 3, 0, 0, 0, 1, 0x45, 0x01, 0x00 };
-    size_t value = 2 + sizeof structure * packets;
+    const uint8_t wrapping = system == 3 ? 4 : 1;
+    const uint8_t of_8[17] = { 0, 9, wrapping, 5, 0, 3, 0, 0, 0, 3, 0, 0, 0, 1, 0x45, 0x01, 0x00 };
+    /* 145 101 200, and 246 alone. */
+    const uint8_t of_10[22] = { 0, 9, wrapping, 8, 0, 4, 0, 0, 0, 8, 0, 0, 0, 1, 0x51, 0x50, 0x18, 0x00, 0x91, 0x80, 0x00, 0x00 };
+    size_t size = ten ? sizeof of_10 : sizeof of_8, value = 2 + size * packets;
     const uint8_t behind[6] = { 0x83, (uint8_t)(value >> 16), (uint8_t)(value >> 8), (uint8_t)value, (uint8_t)(packets >> 8), (uint8_t)packets };
     memcpy(element, key, sizeof key);
     memcpy(element + sizeof key, behind, sizeof behind);
     for (size_t k = 0; k < packets; k++)
-        memcpy(element + 22 + sizeof structure * k, structure, sizeof structure);
+        memcpy(element + 22 + size * k, ten ? of_10 : of_8, size);
     return 20 + value;
+}
+
+/* Written as an element and read from one, as far as the limit goes. */
+static void try_element(unsigned system, size_t packets, size_t n, bool ten)
+{
+    bool few = packets <= LIMIT;
+    vanc_element_written written =
+        ten ? vanc_mxf_write10(sheet, n, false, element, VANC_ELEMENT10_MAX) : vanc_mxf_write(sheet, n, false, element, VANC_ELEMENT_MAX);
+    expect(written.number == (few ? VANC_DONE : VANC_REFUSED_LIMIT) && written.place == 0 && written.word == 0, "mxf write", packets, written.number,
+           written.place);
+    size_t bytes = make_element(system, packets, ten);
+    expect(written.bytes == (few ? bytes : 0), "mxf write, bytes", packets, written.number, written.place);
+    vanc_element_read read = ten ? vanc_mxf_read10(system, false, element, bytes, back, VANC_ELEMENT_SHEET_MAX)
+                                 : vanc_mxf_read(system, false, element, bytes, back, VANC_ELEMENT_SHEET_MAX);
+    expect(few ? is_sheet(read.number, read.numbers, n) : read.number == VANC_REFUSED_LIMIT && read.place == LIMIT, "mxf read", packets, read.number,
+           read.place);
 }
 
 /* Laid and read back, written and read back, as far as the room and the limit go. */
@@ -85,15 +104,8 @@ static void try_count(unsigned system, size_t packets)
             expect(is_sheet(read.number, read.numbers, n), "read", packets, read.number, read.place);
         }
     }
-    bool few = packets <= LIMIT;
-    vanc_element_written written = vanc_mxf_write(sheet, n, false, element, VANC_ELEMENT_MAX);
-    expect(written.number == (few ? VANC_DONE : VANC_REFUSED_LIMIT) && written.place == 0 && written.word == 0, "mxf write", packets, written.number,
-           written.place);
-    size_t bytes = make_element(system, packets);
-    expect(written.bytes == (few ? bytes : 0), "mxf write, bytes", packets, written.number, written.place);
-    vanc_element_read read = vanc_mxf_read(system, false, element, bytes, back, VANC_ELEMENT_SHEET_MAX);
-    expect(few ? is_sheet(read.number, read.numbers, n) : read.number == VANC_REFUSED_LIMIT && read.place == LIMIT, "mxf read", packets, read.number,
-           read.place);
+    try_element(system, packets, n, false);
+    try_element(system, packets, n, true);
 }
 
 /* One number of a sheet changed: both calls on it refuse packet or location k, and tell the word. An area takes packets without a line. */
@@ -107,6 +119,16 @@ static void try_number(size_t n, size_t at, uint16_t changed, uint64_t number, s
     }
     vanc_element_written written = vanc_mxf_write(sheet, n, false, element, VANC_ELEMENT_MAX);
     expect(written.number == number && written.place == k && written.word == word, "mxf write, packet", k, written.number, written.place);
+    sheet[at] = was;
+}
+
+/* The same with the ten-bit element, which takes words of ten bits as they are found. */
+static void try_number10(size_t n, size_t at, uint16_t changed, uint64_t number, size_t k, uint64_t word)
+{
+    uint16_t was = sheet[at];
+    sheet[at] = changed;
+    vanc_element_written written = vanc_mxf_write10(sheet, n, false, element, VANC_ELEMENT10_MAX);
+    expect(written.number == number && written.place == k && written.word == word, "mxf write10, packet", k, written.number, written.place);
     sheet[at] = was;
 }
 
@@ -132,6 +154,13 @@ static void try_packets_at_fault(void)
         try_number(n, packet + 4, 0, VANC_REFUSED_WORD, k, 4);
         try_number(n, packet + 6, 0, VANC_REFUSED_CHECKSUM, k, 6);
         try_number(n, location, 0, VANC_REFUSED_NO_LINE, k, 0);
+        try_number10(n, location, 1126, VANC_REFUSED_LOCATION, k, 0);
+        try_number10(n, location, 584, VANC_REFUSED_PICTURE_LINE, k, 0);
+        try_number10(n, packet + 2, 0, VANC_REFUSED_START, k, 2);
+        try_number10(n, packet + 4, 0x400, VANC_REFUSED_WORD, k, 4);
+        try_number10(n, packet + 6, 0x646, VANC_REFUSED_WORD, k, 6);
+        try_number10(n, packet + 6, 0, VANC_DONE, 0, 0);
+        try_number10(n, location, 0, VANC_REFUSED_NO_LINE, k, 0);
     }
     vanc_lay(sheet, n, 2, area, sizeof area);
     for (size_t k = 0; k < LIMIT; k++) {
@@ -144,8 +173,33 @@ static void try_packets_at_fault(void)
     }
     /* All packets are tested before they are counted: there may be far more than locations. */
     n = make_sheet(2, LIMIT, MANY, 0);
-    for (size_t k = 0; k < MANY; k += 61)
+    for (size_t k = 0; k < MANY; k += 61) {
         try_number(n, 4 + 2 * LIMIT + 7 * k + 6, 0, VANC_REFUSED_CHECKSUM, k, 6);
+        try_number10(n, 4 + 2 * LIMIT + 7 * k + 6, 0x400, VANC_REFUSED_WORD, k, 6);
+    }
+}
+
+/* The longest ten-bit element: 65,535 words in as many packets as there may be, each DC a multiple of three. All other words are 000h, as found. */
+static void try_longest(void)
+{
+    size_t n = 4 + 2 * LIMIT, threes = (65535 - 7 * LIMIT) / 3;
+    make_sheet(2, LIMIT, LIMIT, 0);
+    sheet[n - 1] = 65535;
+    for (size_t k = 0; k < LIMIT; k++) {
+        size_t dc = 3 * (threes / LIMIT + (k < threes % LIMIT));
+        memset(sheet + n, 0, (dc + 7) * sizeof *sheet);
+        sheet[n + 1] = sheet[n + 2] = 0x3FF;
+        sheet[n + 5] = (uint16_t)dc;
+        n += dc + 7;
+    }
+    vanc_element_written written = vanc_mxf_write10(sheet, n, false, element, VANC_ELEMENT10_MAX);
+    expect(written.number == VANC_DONE && written.bytes == VANC_ELEMENT10_MAX, "mxf write10, numbers", n, written.number, written.place);
+    vanc_element_read read = vanc_mxf_read10(2, false, element, written.bytes, back, VANC_ELEMENT_SHEET_MAX);
+    expect(n == VANC_ELEMENT_SHEET_MAX && is_sheet(read.number, read.numbers, n), "mxf read10, numbers", n, read.number, read.place);
+    written = vanc_mxf_write10(sheet, n, false, element, VANC_ELEMENT10_MAX - 1);
+    read = vanc_mxf_read10(2, false, element, VANC_ELEMENT10_MAX, back, VANC_ELEMENT_SHEET_MAX - 1);
+    expect(written.number == VANC_REFUSED_BUFFER, "mxf write10, a byte less", n, written.number, written.place);
+    expect(read.number == VANC_REFUSED_BUFFER, "mxf read10, a number less", n, read.number, read.place);
 }
 
 /* As many packets as the limit, and behind them three bytes but for the user bytes: all fill, or it is 5. */
@@ -180,6 +234,7 @@ int main(void)
         for (size_t packets = 0; packets <= MORE; packets++)
             try_count(system, packets);
     try_packets_at_fault();
+    try_longest();
     for (size_t user = 0; user < 3; user++)
         try_bytes_behind(user);
     /* With three user bytes the frame is full, and its sheet the longest of all. */

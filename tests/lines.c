@@ -163,8 +163,30 @@ static bool serves(packet of, bool fi)
     return system_number != 3 || (of.flags & 1) == fi;
 }
 
+/* A packet's structure, in 8 bits from DID to the last user word, in ten from DID to CS, three samples in four bytes. Its length. */
+static size_t make_structure(uint8_t *to, packet of, bool ten)
+{
+    const uint16_t *word = words_of[of.p] + 3;
+    size_t samples = length_of[of.p] - (ten ? 3 : 4), count = ten ? (samples + 2) / 3 * 4 : samples;
+    const uint8_t coding = (uint8_t)((of.flags & 2 ? 4 : 5) + (ten ? 3 : 0));
+    const uint8_t head[14] = {
+        (uint8_t)(of.line >> 8), (uint8_t)of.line, system_number == 3 ? 4 : 1, coding, 0, (uint8_t)samples, 0, 0, 0, (uint8_t)count, 0, 0, 0, 1
+    };
+    memcpy(to, head, sizeof head);
+    for (size_t i = 0; !ten && i < samples; i++)
+        to[14 + i] = (uint8_t)word[i];
+    for (size_t i = 0; ten && i < samples; i += 3) {
+        uint32_t bits = (uint32_t)word[i] << 22;
+        bits |= i + 1 < samples ? (uint32_t)word[i + 1] << 12 : 0;
+        bits |= i + 2 < samples ? (uint32_t)word[i + 2] << 2 : 0;
+        for (size_t byte = 0; byte < 4; byte++)
+            to[14 + i / 3 * 4 + byte] = (uint8_t)(bits >> (24 - 8 * byte));
+    }
+    return 14 + count;
+}
+
 /* ST 436-1, tables 5 to 7; where `all` is true of all packets, else of those that are served. The element's length, and in `found` their number. */
-static size_t make_element(uint8_t *to, bool fi, bool all, size_t *found)
+static size_t make_element(uint8_t *to, bool fi, bool all, bool ten, size_t *found)
 {
     static const uint8_t key[17] = { 0x06, 0x0E, 0x2B, 0x34, 0x01, 0x02, 0x01, 0x01, 0x0D, 0x01, 0x03, 0x01, 0x17, 0x01, 0x02, 0x01, 0x83 };
     size_t n = 22;
@@ -172,13 +194,7 @@ static size_t make_element(uint8_t *to, bool fi, bool all, size_t *found)
     for (size_t k = 0; k < count; k++) {
         if (!all && !serves(packets[k], fi))
             continue;
-        size_t samples = length_of[packets[k].p] - 4;
-        const uint8_t head[14] = { (uint8_t)(packets[k].line >> 8), (uint8_t)packets[k].line, system_number == 3 ? 4 : 1,
-                                   packets[k].flags & 2 ? 4 : 5, 0, (uint8_t)samples, 0, 0, 0, (uint8_t)samples, 0, 0, 0, 1 };
-        memcpy(to + n, head, sizeof head);
-        for (size_t i = 0; i < samples; i++)
-            to[n + 14 + i] = (uint8_t)words_of[packets[k].p][3 + i];
-        n += 14 + samples;
+        n += make_structure(to + n, packets[k], ten);
         ++*found;
     }
     memcpy(to, key, sizeof key);
@@ -244,32 +260,35 @@ static void try_walking(bool le)
 }
 
 /* A picture line is refused also of a packet that is passed over; no line only of one that is served. */
-static void try_writing(size_t n, bool fi)
+static void try_writing(size_t n, bool fi, bool ten)
 {
     bool served = serves(packets[count / 2], fi);
     uint64_t number = number_of(packets[count / 2].line, VANC_REFUSED_LOCATION, served ? VANC_REFUSED_NO_LINE : VANC_DONE);
     memset(element, NOBODYS, sizeof element);
     memcpy(other_element, element, sizeof element);
-    vanc_element_written written = vanc_mxf_write(sheet, n, fi, element, sizeof element);
+    vanc_element_written written =
+        ten ? vanc_mxf_write10(sheet, n, fi, element, sizeof element) : vanc_mxf_write(sheet, n, fi, element, sizeof element);
     bool right = written.number == number && written.place == place_of(number, count / 2) && written.word == 0;
     if (number == VANC_DONE) {
-        size_t found, bytes = make_element(other_element, fi, false, &found);
+        size_t found, bytes = make_element(other_element, fi, false, ten, &found);
         right = right && written.packets == found && written.bytes == bytes;
     } else {
         right = right && written.packets == 0 && written.bytes == 0;
     }
-    expect(right && memcmp(element, other_element, sizeof element) == 0, fi ? "mxf write, FI 1" : "mxf write, FI 0", written.number, written.place);
+    expect(right && memcmp(element, other_element, sizeof element) == 0,
+           ten ? (fi ? "mxf write10, FI 1" : "mxf write10, FI 0") : (fi ? "mxf write, FI 1" : "mxf write, FI 0"), written.number, written.place);
 }
 
 /* A line outside the frame is told by the byte where its structure starts, behind key, length, N and the structure before it. */
-static void try_element(bool fi)
+static void try_element(bool fi, bool ten)
 {
     uint64_t number = number_of(packets[count / 2].line, VANC_REFUSED_ELEMENT, VANC_REFUSED_ELEMENT);
-    size_t found, bytes = make_element(element, fi, true, &found), before = count == 1 ? 0 : 14 + length_of[packets[0].p] - 4;
+    size_t found, bytes = make_element(element, fi, true, ten, &found), before = count == 1 ? 0 : make_structure(other_element, packets[0], ten);
     size_t place = number == VANC_REFUSED_ELEMENT ? 22 + before : count / 2;
     memset(back, NOBODYS, sizeof back);
     memcpy(other_back, back, sizeof back);
-    vanc_element_read read = vanc_mxf_read(system_number, fi, element, bytes, back, ROOM);
+    vanc_element_read read =
+        ten ? vanc_mxf_read10(system_number, fi, element, bytes, back, ROOM) : vanc_mxf_read(system_number, fi, element, bytes, back, ROOM);
     bool right = read.number == number && read.place == place_of(number, place);
     if (number == VANC_DONE) {
         packet kept[3];
@@ -282,7 +301,8 @@ static void try_element(bool fi)
     } else {
         right = right && read.packets == 0 && read.numbers == 0;
     }
-    expect(right && memcmp(back, other_back, sizeof back) == 0, fi ? "mxf read, FI 1" : "mxf read, FI 0", read.number, read.place);
+    expect(right && memcmp(back, other_back, sizeof back) == 0,
+           ten ? (fi ? "mxf read10, FI 1" : "mxf read10, FI 0") : (fi ? "mxf read, FI 1" : "mxf read, FI 0"), read.number, read.place);
 }
 
 static void try_line(unsigned line)
@@ -295,8 +315,10 @@ static void try_line(unsigned line)
         try_reading(1 + one, true);
         try_reading(1 + one, false);
         try_walking(one);
-        try_writing(n, one);
-        try_element(one);
+        for (unsigned ten = 0; ten < 2; ten++) {
+            try_writing(n, one, ten);
+            try_element(one, ten);
+        }
     }
 }
 

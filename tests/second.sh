@@ -18,12 +18,12 @@ rustc --edition 2021 -O -o "$work/second" tests/second/main.rs
 rustc --edition 2021 --test -o "$work/figures" tests/second/main.rs
 quietly "$work/figures"
 
-# On an x86-64 core 160,000 cases take 24 s, and 26,000 with fences 5 s. An emulator takes about ten times as long: there a tenth of them runs, in
+# On an x86-64 core 190,000 cases take 33 s, and 32,000 with fences 7 s. An emulator takes about ten times as long: there a tenth of them runs, in
 # which every number is met on every call too, and --long runs all.
-answer=("$work/answer") cases=160000 fenced=26000
+answer=("$work/answer") cases=190000 fenced=32000
 if [ "$(uname -m)" != x86_64 ]; then
   answer=(qemu-x86_64 -L /usr/x86_64-linux-gnu "$work/answer")
-  [ "${1-}" = --long ] || cases=16000 fenced=2600
+  [ "${1-}" = --long ] || cases=19000 fenced=3200
 fi
 [ "${1-}" != --long ] || shift
 
@@ -47,7 +47,7 @@ if [ "${1-}" = --case ]; then
 else
   differs packet.rs '% 512' '% 256'
   differs rules.rs 'place > string.last_pack' 'place >= string.last_pack'
-  differs element.rs 'coding == LUMA as usize {' 'coding == COLOUR as usize {'
+  differs element.rs 'coding == luma {' 'coding == colour {'
   differs element.rs '(19, self.element.len() as u64)' '(19, self.at as u64)'
   differs element.rs '18, k)' '18, k.min(served.len()))'
   # The packet limit one too low, and the place of a late packet in ten bits.
@@ -64,6 +64,11 @@ else
   differs rules.rs 'refuse_if(line > system' 'refuse_if(system.is_picture_line(line), 20, k)?; refuse_if(line > system'
   differs packet.rs 'if checksum !=' 'if system.allows((danc[1] % 16) as u16 * 128 + (danc[0] % 128) as u16) \&\& checksum !='
   differs element.rs 'let coding = fields' 'refuse_if(!system.allows(line as u16), 20, 0)?; let coding = fields'
+  # Ten bits as found: CS tested after all, CS over 3FFh taken, the samples from the low end, and DC by all of its ten bits.
+  differs packet.rs 'Ok(words\[3..7 + dc\]' 'match packet_in_front(words) { Err(f) if f.number == 10 => return Err(f), _ => {} }; Ok(words[3..7 + dc]'
+  differs packet.rs '6, 7 + dc, has_ten_bits' '6, 6 + dc, has_ten_bits'
+  differs element10.rs '22 - 10 \* place' '2 + 10 * place'
+  differs element10.rs '\[2\] & 0xFF' '[2] \& 0x3FF'
   echo "second: a changed rule is found"
   # Each buffer ends at a page that cannot be touched.
   "$work/second" 376 "$fenced" "${answer[@]}" fence >"$work/log" || { cat "$work/log"; exit 1; }
@@ -71,7 +76,8 @@ else
   "$work/second" "${1-375}" "${2-$cases}" "${answer[@]}"
   # The baselines that the library's cost is compared with have to do the same work. They have no walk and no test of a packet alone: those calls
   # are the library's.
-  calls=(-Dvanc_lay=baseline_lay -Dvanc_read=baseline_read -Dvanc_mxf_write=baseline_mxf_write -Dvanc_mxf_read=baseline_mxf_read)
+  calls=(-Dvanc_lay=baseline_lay -Dvanc_read=baseline_read -Dvanc_mxf_write=baseline_mxf_write -Dvanc_mxf_read=baseline_mxf_read
+    -Dvanc_mxf_write10=baseline_mxf_write10 -Dvanc_mxf_read10=baseline_mxf_read10)
   for baseline in plain tuned; do
     cc_for -std=c11 -O3 -I include -I bench "${calls[@]}" -c tests/second/answer.c -o "$work/answer.o"
     cc_for -std=c11 -O3 -I include -I bench -c "bench/$baseline.c" -o "$work/baseline.o"

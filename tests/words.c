@@ -9,7 +9,8 @@
  * is found as 8 at word 5 before its length is used. What a wrong length does is seen with every other DC that has its parity.
  *
  * Also: two flipped words, packets cut to every shorter length, and sheets whose second packet is so damaged, of which laying and the writing of
- * elements tell the same. Prints how many answers there were, and the first that are wrong.
+ * elements tell the same. The ten-bit element takes it as found, where each word has its ten bits, and gives back the same words, of which the test
+ * tells the same. Prints how many answers there were, and the first that are wrong.
  */
 #include <stdio.h>
 #include <stdlib.h>
@@ -26,7 +27,8 @@ static size_t which, length;
 static uint16_t words[LONGEST];
 static uint16_t sheet[4 + 2 * 3 + 3 * LONGEST];
 static uint8_t area[VANC_AREA_1080_60I];
-static uint8_t element[VANC_ELEMENT_MAX];
+static uint16_t back[sizeof sheet / sizeof *sheet];
+static uint8_t element[VANC_ELEMENT10_MAX];
 static unsigned long answers, wrong;
 
 static void stop(const char *why)
@@ -150,6 +152,45 @@ static void same_in_sheet(size_t n, size_t second, size_t at)
            written.word, written.place);
 }
 
+/* The sheet goes through a ten-bit element and comes back as it was. */
+static void comes_back(size_t n, size_t second, size_t at)
+{
+    vanc_element_written written = vanc_mxf_write10(sheet, n, false, element, sizeof element);
+    expect(written.number == VANC_DONE && written.packets == 3 && written.word == 0, "mxf write10, word", at, written.number, written.word,
+           written.place);
+    memset(back, 0xFF, sizeof back);
+    vanc_element_read read = vanc_mxf_read10(1, false, element, written.bytes, back, n);
+    bool same = read.number == VANC_DONE && read.packets == 3 && read.numbers == n && memcmp(back, sheet, n * sizeof *sheet) == 0;
+    expect(same, "mxf read10, word", at, read.number, read.packets, read.place);
+    vanc_judged before = vanc_test_packet(sheet + second, n - second), after = vanc_test_packet(back + second, n - second);
+    expect(before.number == after.number && before.word == after.word && before.kind == after.kind, "tested again, word", at, after.number,
+           after.word, after.kind);
+}
+
+/* A number of the second packet's words is refused by the ten-bit element, at this word. */
+static void refused10(size_t n, uint64_t number, uint64_t word, const char *what, size_t at)
+{
+    vanc_element_written written = vanc_mxf_write10(sheet, n, false, element, sizeof element);
+    expect(written.number == number && written.place == 1 && written.word == word && written.bytes == 0, what, at, written.number, written.word,
+           written.place);
+}
+
+/* One of the bits above the tenth flipped is 8, also in CS; one of the ten is taken, but in the flag. DC's low byte is the packet's length. */
+static void try_as_found(size_t n, size_t second)
+{
+    for (size_t at = 0; at < length; at++) {
+        uint16_t was = sheet[second + at], over = (uint16_t)(0x400u << (at + which) % 6);
+        sheet[second + at] = was | over;
+        refused10(n, at < 3 ? VANC_REFUSED_START : VANC_REFUSED_WORD, at, "mxf write10, over 3FFh, word", at);
+        sheet[second + at] = was ^ (uint16_t)(at == 5 ? 0x100u << which % 2 : 1u << (at + which) % 10);
+        if (at < 3)
+            refused10(n, VANC_REFUSED_START, at, "mxf write10, flag, word", at);
+        else
+            comes_back(n, second, at);
+        sheet[second + at] = was;
+    }
+}
+
 /* Three packets on line 9, this one second. Its place is given back, and the sheet's length in `n`. */
 static size_t make_sheet(size_t *n)
 {
@@ -171,6 +212,8 @@ static void try_sheets(void)
     vanc_element_written written = vanc_mxf_write(sheet, n, false, element, sizeof element);
     expect(laid.number == VANC_DONE && laid.place == 0 && laid.word == 0, "lay", 0, laid.number, laid.word, laid.place);
     expect(written.number == VANC_DONE && written.place == 0 && written.word == 0, "mxf write", 0, written.number, written.word, written.place);
+    comes_back(n, second, 0);
+    try_as_found(n, second);
     for (size_t at = 0; at < length; at++) {
         uint16_t was = sheet[second + at];
         sheet[second + at] ^= (uint16_t)(1u << (at + which) % 16);
@@ -185,6 +228,7 @@ static void try_sheets(void)
     for (size_t left = 1; left < length; left++) {
         sheet[9] = (uint16_t)(second + left - 10);
         same_in_sheet(second + left, second, left);
+        refused10(second + left, left < 7 ? VANC_REFUSED_START : VANC_REFUSED_CUT, left, "mxf write10, cut, words left", left);
     }
 }
 

@@ -1,9 +1,9 @@
 /*
  * Answers requests on standard input with calls of libvanc, on standard output, until the input ends.
  *
- * Request: five numbers (64 bits, low byte first): call (0 lay, 1 read, 2 walk, 3 mxf write, 4 mxf read, 5 test packet), packing or system,
- * place or FI, length of what the call reads, length of what it may write, both in bytes; then those bytes. A sheet's numbers and a packet's
- * words have their low byte first.
+ * Request: five numbers (64 bits, low byte first): call (0 lay, 1 read, 2 walk, 3 mxf write, 4 mxf read, 5 test packet, 6 mxf write10, 7 mxf
+ * read10), packing or system, place or FI, length of what the call reads, length of what it may write, both in bytes; then those bytes. A sheet's
+ * numbers and a packet's words have their low byte first.
  * Answer: five numbers, the result's fields in the header's order and then 0; a sixth, 0 or the bits of what was changed that may not be
  * (see CHANGED_); then all bytes of what the call may write.
  *
@@ -20,7 +20,7 @@
 
 #include "vanc.h"
 
-enum { LAY, READ, WALK, MXF_WRITE, MXF_READ, TEST_PACKET };
+enum { LAY, READ, WALK, MXF_WRITE, MXF_READ, TEST_PACKET, MXF_WRITE10, MXF_READ10 };
 enum { GUARDED, EXACT, FENCED };
 /* Guards of what a call reads; for what it writes two bits higher, 4 and 8. */
 enum { CHANGED_BEFORE = 1, CHANGED_BEHIND = 2, CHANGED_READ_ONLY = 16 };
@@ -104,15 +104,18 @@ static void call(const uint64_t request[5], lent from, lent to, uint64_t answer[
     } else if (request[0] == WALK) {
         vanc_step r = vanc_walk(request[1], from.bytes, from.length, request[2]);
         memcpy(answer, (uint64_t[]){ r.number, r.place, r.length }, 3 * sizeof *answer);
-    } else if (request[0] == MXF_WRITE) {
-        vanc_element_written r = vanc_mxf_write((const uint16_t *)from.bytes, from.length / 2, request[2] != 0, to.bytes, to.length);
-        memcpy(answer, (uint64_t[]){ r.number, r.place, r.word, r.packets, r.bytes }, 5 * sizeof *answer);
     } else if (request[0] == TEST_PACKET) {
         vanc_judged r = vanc_test_packet((const uint16_t *)from.bytes, from.length / 2);
         memcpy(answer, (uint64_t[]){ r.number, r.word, r.kind }, 3 * sizeof *answer);
+    } else if (request[0] == MXF_WRITE || request[0] == MXF_WRITE10) {
+        vanc_element_written (*writer)(const uint16_t *, size_t, bool, uint8_t *, size_t) =
+            request[0] == MXF_WRITE ? vanc_mxf_write : vanc_mxf_write10;
+        vanc_element_written r = writer((const uint16_t *)from.bytes, from.length / 2, request[2] != 0, to.bytes, to.length);
+        memcpy(answer, (uint64_t[]){ r.number, r.place, r.word, r.packets, r.bytes }, 5 * sizeof *answer);
     } else {
-        vanc_element_read r =
-            vanc_mxf_read(request[1], request[2] != 0, from.bytes, from.length, (uint16_t *)to.bytes, to.length / 2);
+        vanc_element_read (*reader)(uint64_t, bool, const uint8_t *, size_t, uint16_t *, size_t) =
+            request[0] == MXF_READ ? vanc_mxf_read : vanc_mxf_read10;
+        vanc_element_read r = reader(request[1], request[2] != 0, from.bytes, from.length, (uint16_t *)to.bytes, to.length / 2);
         memcpy(answer, (uint64_t[]){ r.number, r.place, r.packets, r.numbers }, 4 * sizeof *answer);
     }
 }

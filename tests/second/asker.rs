@@ -56,8 +56,8 @@ pub fn request(call: &Call) -> Vec<u8> {
         Call::Lay { sheet, packing, area } => (*packing, 0, bytes_of(sheet), area.clone()),
         Call::Read { system, area, buffer } => (*system, 0, area.clone(), bytes_of(buffer)),
         Call::Walk { system, string, place } => (*system, *place, string.clone(), Vec::new()),
-        Call::MxfWrite { sheet, fi, element } => (0, u64::from(*fi), bytes_of(sheet), element.clone()),
-        Call::MxfRead { system, fi, element, buffer } => (*system, u64::from(*fi), element.clone(), bytes_of(buffer)),
+        Call::MxfWrite { sheet, fi, element, .. } => (0, u64::from(*fi), bytes_of(sheet), element.clone()),
+        Call::MxfRead { system, fi, element, buffer, .. } => (*system, u64::from(*fi), element.clone(), bytes_of(buffer)),
         Call::TestPacket { words } => (0, 0, bytes_of(words), Vec::new()),
     };
     let mut bytes = Vec::new();

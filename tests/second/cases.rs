@@ -2,16 +2,16 @@
 
 use crate::random::Random;
 use crate::rules::{self, system, system_before_a3, System, Systems, FORMER_LIMIT, MOST_PACKETS};
-use crate::{element, element_read_cases, element_write_cases, lay_cases, packet, packet_cases, read_cases, walk_cases};
+use crate::{element, element10, element_read_cases, element_write_cases, lay_cases, packet, packet_cases, read_cases, walk_cases};
 
-/// What a call is given.
+/// What a call is given. Of elements `ten` says which coding: the ten-bit one of request A13, or the 8-bit one of request A1.
 #[derive(Clone, PartialEq)]
 pub enum Call {
     Lay { sheet: Vec<u16>, packing: u64, area: Vec<u8> },
     Read { system: u64, area: Vec<u8>, buffer: Vec<u16> },
     Walk { system: u64, string: Vec<u8>, place: u64 },
-    MxfWrite { sheet: Vec<u16>, fi: bool, element: Vec<u8> },
-    MxfRead { system: u64, fi: bool, element: Vec<u8>, buffer: Vec<u16> },
+    MxfWrite { ten: bool, sheet: Vec<u16>, fi: bool, element: Vec<u8> },
+    MxfRead { ten: bool, system: u64, fi: bool, element: Vec<u8>, buffer: Vec<u16> },
     TestPacket { words: Vec<u16> },
 }
 
@@ -41,8 +41,10 @@ pub const WALK: usize = 2;
 pub const MXF_WRITE: usize = 3;
 pub const MXF_READ: usize = 4;
 pub const TEST_PACKET: usize = 5;
-pub const CALLS: usize = 6;
-pub const NAMES: [&str; CALLS] = ["lay", "read", "walk", "mxf write", "mxf read", "test packet"];
+pub const MXF_WRITE10: usize = 6;
+pub const MXF_READ10: usize = 7;
+pub const CALLS: usize = 8;
+pub const NAMES: [&str; CALLS] = ["lay", "read", "walk", "mxf write", "mxf read", "test packet", "mxf write10", "mxf read10"];
 
 impl Call {
     pub fn which(&self) -> usize {
@@ -50,13 +52,25 @@ impl Call {
             Call::Lay { .. } => LAY,
             Call::Read { .. } => READ,
             Call::Walk { .. } => WALK,
-            Call::MxfWrite { .. } => MXF_WRITE,
-            Call::MxfRead { .. } => MXF_READ,
+            Call::MxfWrite { ten, .. } => {
+                if *ten {
+                    MXF_WRITE10
+                } else {
+                    MXF_WRITE
+                }
+            }
+            Call::MxfRead { ten, .. } => {
+                if *ten {
+                    MXF_READ10
+                } else {
+                    MXF_READ
+                }
+            }
             Call::TestPacket { .. } => TEST_PACKET,
         }
     }
 
-    /// The answer by document 01 and the requests A1, A2, A3 and A6.
+    /// The answer by document 01 and the requests A1, A2, A3, A6 and A13.
     pub fn expected(&self) -> Answer {
         self.expected_by(system)
     }
@@ -83,13 +97,13 @@ impl Call {
                 let step = rules::walk_by(systems, *system, string, *place);
                 answer.fields = [step.number, step.place, step.length, 0, 0];
             }
-            Call::MxfWrite { sheet, fi, element } => {
-                let written = element::write_by(systems, sheet, *fi, element);
+            Call::MxfWrite { ten, sheet, fi, element } => {
+                let written = element10::write_either(*ten, systems, sheet, *fi, element);
                 answer.fields = [written.number, written.place, written.word, written.packets, written.bytes];
                 answer.bytes = written.element;
             }
-            Call::MxfRead { system, fi, element, buffer } => {
-                let back = element::read_by(systems, *system, *fi, element, buffer);
+            Call::MxfRead { ten, system, fi, element, buffer } => {
+                let back = element::read_by(element10::coding(*ten), systems, *system, *fi, element, buffer);
                 answer.fields = [back.number, back.place, back.packets, back.numbers, 0];
                 answer.buffer = back.buffer;
             }
@@ -125,15 +139,17 @@ pub fn how_many(packets: usize) -> String {
     }
 }
 
-/// About a fourth of the cases are of elements, and a tenth of packets alone.
+/// More than a third of the cases are of elements, in either coding, and a twelfth of packets alone.
 pub fn make(seed: u64, case: u64) -> Case {
     let mut random = Random::of_case(seed, case);
-    match random.weighted(&[230, 230, 86, 90, 100, 80]) {
+    match random.weighted(&[230, 230, 86, 90, 100, 80, 90, 100]) {
         LAY => lay_cases::make(&mut random),
         READ => read_cases::make(&mut random),
         WALK => walk_cases::make(&mut random),
-        MXF_WRITE => element_write_cases::make(&mut random),
-        MXF_READ => element_read_cases::make(&mut random),
+        MXF_WRITE => element_write_cases::make(&mut random, false),
+        MXF_READ => element_read_cases::make(&mut random, false),
+        MXF_WRITE10 => element_write_cases::make(&mut random, true),
+        MXF_READ10 => element_read_cases::make(&mut random, true),
         _ => packet_cases::make(&mut random),
     }
 }

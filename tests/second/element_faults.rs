@@ -1,6 +1,7 @@
-//! Padding, and faults in elements: in a structure, or in the whole.
+//! Padding and what else is disregarded, and faults in elements of either coding: in a structure, or in the whole.
 
-use crate::element::{HEAD, KEY};
+use crate::element::{FRONT, HEAD, KEY};
+use crate::element10::coding;
 use crate::lines::picture_line;
 use crate::random::Random;
 use crate::rules::{System, MOST_PACKETS};
@@ -12,7 +13,7 @@ const CODING: usize = 3;
 const SAMPLES: usize = 4;
 const COUNT: usize = 6;
 const ARRAY_ELEMENT: usize = 10;
-const ARRAY: usize = 14;
+const ARRAY: usize = FRONT;
 
 fn two(bytes: &[u8], at: usize) -> u16 {
     u16::from_be_bytes([bytes[at], bytes[at + 1]])
@@ -30,7 +31,34 @@ fn put_four(bytes: &mut [u8], at: usize, number: u32) {
     bytes[at..at + 4].copy_from_slice(&number.to_be_bytes());
 }
 
-// Padding.
+/// DC, the low byte of the third sample: in ten bits it stands in bits 9 to 2 of two bytes.
+fn put_dc(structure: &mut [u8], ten: bool, dc: u8) {
+    if ten {
+        let with_other_bits = two(structure, ARRAY + 2) & !0x3FC | (dc as u16) << 2;
+        put_two(structure, ARRAY + 2, with_other_bits);
+    } else {
+        structure[ARRAY + 2] = dc;
+    }
+}
+
+// Padding, and what ten bits leave unused.
+
+/// Any values in the two low bits of each four bytes and in the samples that the last four leave unused: ST 436-1, 5.4.4, has the bits "should
+/// be set to zero", which is no rule, and says nothing of the samples. The structure has no padding.
+pub fn put_unused(random: &mut Random, structure: &mut [u8]) {
+    let mut left = two(structure, SAMPLES) as usize;
+    let (bits, samples) = (random.chance(70), random.chance(70));
+    for at in (ARRAY..structure.len()).step_by(4) {
+        // Of the last four bytes one sample or two may be there: the high 10 or 20 bits.
+        let unused = if left < 3 && samples { u32::MAX >> (10 * left) } else { 0 };
+        let mask = if bits { unused | 3 } else { unused & !3 };
+        let noise = random.next() as u32;
+        let any = random.pick(&[u32::MAX, noise]);
+        let number = four(structure, at) & !mask | any & mask;
+        put_four(structure, at, number);
+        left = left.saturating_sub(3);
+    }
+}
 
 /// Puts padding behind each structure's samples, and names how. ST 436-1, annex B: up to three bytes to some multiple of four, but also
 /// none, and "large padding space"; it "should have a value of zero", which is no rule.
@@ -63,17 +91,17 @@ pub fn pad(random: &mut Random, structures: &mut [Vec<u8>]) -> &'static str {
 
 // Faults in a structure.
 
-/// Puts one fault into one structure, and names it. Some leave it sound, as a line that is the last. `structures` is not empty.
-pub fn put_structure_fault(random: &mut Random, structures: &mut [Vec<u8>], system: &System) -> &'static str {
+/// Puts one fault into one structure of a coding, and names it. Some leave it sound, as a line that is the last. `structures` is not empty.
+pub fn put_structure_fault(random: &mut Random, structures: &mut [Vec<u8>], system: &System, ten: bool) -> &'static str {
     let k = random.index(structures.len());
     let length_of = |structures: &[Vec<u8>]| structures.iter().map(Vec::len).sum::<usize>();
     let (before, behind) = (HEAD + length_of(&structures[..k]), length_of(&structures[k + 1..]));
     let structure = &mut structures[k];
     // A fault before this one may have cut it.
-    if structure.len() < ARRAY + 3 {
+    if structure.len() < ARRAY + (coding(ten).bytes)(coding(ten).beside_user) {
         return "structure cut";
     }
-    match random.weighted(&[14, 8, 8, 16, 24, 8, 12, 6, 4, 22]) {
+    match random.weighted(&[14, 8, 8, 16, 24, 8, 12, 6, 4, 22, if ten { 6 } else { 0 }]) {
         0 => {
             let (line, last) = (two(structure, LINE), system.last_line);
             put_two(
@@ -88,11 +116,11 @@ pub fn put_structure_fault(random: &mut Random, structures: &mut [Vec<u8>], syst
             put(structure, WRAPPING, wrong, "wrapping")
         }
         2 => {
-            let wrong = random.pick(&[0, 1, 3, 3, 4, 5, 6, 6, 7, 8, 9, 10, 11, 12, 0x84, 0x85, 0xFF]);
+            let wrong = random.pick(&[0, 1, 3, 4, 5, 6, 7, 8, 9, 10, 11, 12, 0x84, 0x85, 0x87, 0x88, 0xFF]);
             put(structure, CODING, wrong, "coding")
         }
-        3 => wrong_samples(random, structure),
-        4 => wrong_count(random, structure, before, behind),
+        3 => wrong_samples(random, structure, ten),
+        4 => wrong_count(random, structure, before, behind, ten),
         5 => {
             put_four(
                 structure,
@@ -102,8 +130,10 @@ pub fn put_structure_fault(random: &mut Random, structures: &mut [Vec<u8>], syst
             "array element length"
         }
         6 => {
-            let (dc, any) = (structure[ARRAY + 2], random.byte());
-            put(structure, ARRAY + 2, random.pick(&[dc.wrapping_add(1), dc.wrapping_sub(1), 0, 255, any]), "DC")
+            let (dc, any) = ((coding(ten).dc)(&structure[ARRAY..]) as u8, random.byte());
+            let bit = dc ^ 1 << random.below(8);
+            put_dc(structure, ten, random.pick(&[dc.wrapping_add(1), dc.wrapping_sub(1), 0, 255, any, bit]));
+            "DC"
         }
         7 => {
             structure.truncate(random.between(0, structure.len() - 1));
@@ -113,8 +143,17 @@ pub fn put_structure_fault(random: &mut Random, structures: &mut [Vec<u8>], syst
             structure.insert(random.below(structure.len()), random.pick(&[0x00, 0xFF, 0x01]));
             "byte too many"
         }
-        _ => put_picture_line(random, structure, system),
+        9 => put_picture_line(random, structure, system),
+        _ => cut_array(random, structure),
     }
+}
+
+/// Bytes that samples leave unused are not in the array, and the count says so: ten bits take four bytes for one sample too.
+fn cut_array(random: &mut Random, structure: &mut Vec<u8>) -> &'static str {
+    structure.truncate(structure.len() - random.between(1, 4));
+    let count = (structure.len() - ARRAY) as u32;
+    put_four(structure, COUNT, count);
+    "array cut"
 }
 
 /// A picture line, or one bit of the line changed, which may make it one.
@@ -129,22 +168,25 @@ fn put(bytes: &mut [u8], at: usize, byte: u8, name: &'static str) -> &'static st
     name
 }
 
-/// The ends of 3 to 258, about the right count, right in 8 bits only; now and then with the DC that belongs to it.
-fn wrong_samples(random: &mut Random, structure: &mut [u8]) -> &'static str {
-    let samples = two(structure, SAMPLES);
+/// The ends of 3 to 258, in ten bits of 4 to 259, about the right count, right in 8 bits only; now and then with the DC that belongs to it.
+fn wrong_samples(random: &mut Random, structure: &mut [u8], ten: bool) -> &'static str {
+    let (samples, least) = (two(structure, SAMPLES), coding(ten).beside_user as u16);
+    let most = least + 255;
     let about =
         random.pick(&[samples.wrapping_add(1), samples.wrapping_sub(1), samples.wrapping_add(256), samples ^ 0x100, samples | 0x8000]);
-    let wrong = random.pick(&[0, 1, 2, 2, 3, 4, 257, 258, 259, 259, 260, 65_535, about, about, about]);
+    let wrong =
+        random.pick(&[0, 1, 2, least - 1, least, least + 1, most - 1, most, most + 1, most + 1, most + 2, 65_535, about, about, about]);
     put_two(structure, SAMPLES, wrong);
     if random.chance(50) {
-        structure[ARRAY + 2] = wrong.wrapping_sub(3) as u8;
+        put_dc(structure, ten, wrong.wrapping_sub(least) as u8);
     }
     "sample count"
 }
 
-/// About the samples, about the element's end, and near 2^32: also such that the end of the array is right, or before it, in 32 bits.
-fn wrong_count(random: &mut Random, structure: &mut [u8], before: usize, behind: usize) -> &'static str {
-    let (samples, count) = (two(structure, SAMPLES) as u32, four(structure, COUNT));
+/// About what the samples take, about the element's end, and near 2^32: also such that the end of the array is right, or before it, in 32 bits.
+fn wrong_count(random: &mut Random, structure: &mut [u8], before: usize, behind: usize, ten: bool) -> &'static str {
+    let (samples, count) = (two(structure, SAMPLES) as usize, four(structure, COUNT));
+    let taken = (coding(ten).bytes)(samples) as u32;
     // What an array to the element's end has, and the distance from the array back to the element's start.
     let to_end = (structure.len() - ARRAY + behind) as u32;
     let back = (before + ARRAY) as u32;
@@ -160,7 +202,8 @@ fn wrong_count(random: &mut Random, structure: &mut [u8], before: usize, behind:
     ]);
     let about_end =
         random.pick(&[to_end, to_end + 1, to_end + 4, to_end + 5, to_end + 8, to_end.wrapping_sub(1), to_end.wrapping_sub(4)]);
-    let about = random.pick(&[samples.wrapping_sub(1), samples, samples + 1, count.wrapping_add(1), count.wrapping_sub(1), 0, 1]);
+    let one_off = [taken.wrapping_sub(1), taken + 1, count.wrapping_add(1), count.wrapping_sub(1)];
+    let about = random.pick(&[one_off[0], taken, one_off[1], one_off[2], one_off[3], 0, 1, samples as u32, taken.wrapping_sub(4)]);
     let high = random.pick(&[1 << 16, 1 << 24, 1 << 31, 255 << 24]);
     put_four(structure, COUNT, random.pick(&[near, about_end, about_end, about, about, count.wrapping_add(high)]));
     "array count"

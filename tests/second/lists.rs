@@ -109,6 +109,12 @@ pub fn dcs_of_words(count: usize, words: usize) -> Vec<usize> {
     (0..count).map(|k| user / count + usize::from(k < user % count)).collect()
 }
 
+/// The same with DCs that are multiples of three, and no more words: of these a ten-bit element is the longest.
+pub fn dcs_of_threes(count: usize, words: usize) -> Vec<usize> {
+    let threes = (words - 7 * count) / 3;
+    (0..count).map(|k| 3 * (threes / count + usize::from(k < threes % count))).collect()
+}
+
 /// `total` in `count` parts, none over `most`.
 fn shares(random: &mut Random, total: usize, count: usize, most: usize) -> Vec<usize> {
     let mut parts: Vec<usize> = (0..count).map(|k| total / count + usize::from(k < total % count)).collect();

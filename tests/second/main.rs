@@ -1,16 +1,21 @@
-//! Compares libvanc with a second implementation of document 01 and the requests A1, A2, A3 and A6, on cases made by chance.
+//! Compares libvanc with a second implementation of document 01 and the requests A1, A2, A3, A6 and A13, on cases made by chance.
 //!
 //! second SEED CASES COMMAND [ARG..]         asks COMMAND (answer.c) CASES cases; exits with 1 on a mismatch or a number never met
 //! second --case SEED CASE COMMAND [ARG..]   makes one case again and shows it
 
+mod as_found;
 mod asker;
 mod cases;
 mod element;
+mod element10;
 mod element_faults;
 mod element_read_cases;
 mod element_write_cases;
 #[cfg(test)]
 mod figures;
+#[cfg(test)]
+mod figures10;
+mod found;
 mod lay_cases;
 mod lines;
 mod lists;

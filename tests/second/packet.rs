@@ -1,4 +1,5 @@
-//! The ten-bit packet and its test, its DANC bytes and the sheet. Quotations are from document 01 and the requests A2 and A3.
+//! The ten-bit packet and its test, sound or as found, its DANC bytes and the sheet. Quotations are from document 01 and the requests A2, A3 and
+//! A13.
 
 use crate::rules::System;
 
@@ -9,6 +10,17 @@ pub struct Packet {
     pub flags: u16,
     pub bytes: Vec<u8>,
 }
+
+/// A packet as it is found, and its location: all of its words from DID to CS, each of ten bits.
+#[derive(Clone)]
+pub struct Found {
+    pub line: u16,
+    pub flags: u16,
+    pub words: Vec<u16>,
+}
+
+/// The words in front of DID.
+const FLAG: [u16; 3] = [0x000, 0x3FF, 0x3FF];
 
 /// "bit 9 is the inverse of bit 8"
 pub fn with_bit_9(nine_bits: u16) -> u16 {
@@ -37,7 +49,7 @@ pub fn checksum_word(bytes: &[u8]) -> u16 {
 
 /// "Ten-bit words: 000h, 3FFh, 3FFh; DID; SDID or DBN; DC; DC user words (0 to 255); CS."
 pub fn words(packet: &Packet) -> Vec<u16> {
-    let mut words = vec![0x000, 0x3FF, 0x3FF];
+    let mut words = FLAG.to_vec();
     words.extend(packet.bytes.iter().map(|&byte| parity_word(byte)));
     words.push(checksum_word(&packet.bytes));
     words
@@ -53,33 +65,63 @@ fn fault(number: u64, word: usize) -> Fault {
     Fault { number, word: word as u64 }
 }
 
-/// "8: a word from DID to the last user word is not its low byte with right bits above", for those from `first` up to `end`.
-fn with_parity(words: &[u16], first: usize, end: usize) -> Result<(), Fault> {
-    let wrong = words[first..end].iter().position(|&word| word != parity_word(word as u8));
+/// "8: a word from DID to the last user word is not its low byte with right bits above"
+fn has_parity(word: u16) -> bool {
+    word == parity_word(word as u8)
+}
+
+/// Request A13: "gives 8 only for a word over 3FFh". A sheet's numbers have 16 bits.
+fn has_ten_bits(word: u16) -> bool {
+    word <= 0x3FF
+}
+
+/// 8 for the first of the words from `first` up to `end` that is not right.
+fn all_right(words: &[u16], first: usize, end: usize, is_right: fn(u16) -> bool) -> Result<(), Fault> {
+    let wrong = words[first..end].iter().position(|&word| !is_right(word));
     wrong.map_or(Ok(()), |k| Err(fault(8, first + k)))
+}
+
+/// "7: fewer than 7 words left, or no 000h 3FFh 3FFh" - "For 7 it is the first wrong flag word, else the first missing word"
+fn begins(words: &[u16]) -> Result<(), Fault> {
+    let wrong_flag = words.iter().zip(FLAG).position(|(&word, right)| word != right);
+    if wrong_flag.is_some() || words.len() < 7 {
+        return Err(fault(7, wrong_flag.unwrap_or(words.len())));
+    }
+    Ok(())
+}
+
+/// DC. "9: fewer than DC + 7 words left" - "for 9 the first missing" - "DC's low byte still gives the length"
+fn whole(words: &[u16]) -> Result<usize, Fault> {
+    let dc = (words[5] & 0xFF) as usize;
+    if words.len() < dc + 7 {
+        return Err(fault(9, words.len()));
+    }
+    Ok(dc)
 }
 
 /// DID to the last user byte of the packet that the words begin with, or its first fault: "7; 8 on DID, SDID and DC; 9; 8 on the user words;
 /// 10". What stands behind CS is not its.
 pub fn packet_in_front(words: &[u16]) -> Result<Vec<u8>, Fault> {
-    // "7: fewer than 7 words left, or no 000h 3FFh 3FFh" - "For 7 it is the first wrong flag word, else the first missing word"
-    let wrong_flag = words.iter().zip([0x000, 0x3FF, 0x3FF]).position(|(&word, right)| word != right);
-    if wrong_flag.is_some() || words.len() < 7 {
-        return Err(fault(7, wrong_flag.unwrap_or(words.len())));
-    }
-    with_parity(words, 3, 6)?;
-    // "9: fewer than DC + 7 words left" - "for 9 the first missing"
-    let dc = (words[5] & 0xFF) as usize;
-    if words.len() < dc + 7 {
-        return Err(fault(9, words.len()));
-    }
-    with_parity(words, 6, 6 + dc)?;
+    begins(words)?;
+    all_right(words, 3, 6, has_parity)?;
+    let dc = whole(words)?;
+    all_right(words, 6, 6 + dc, has_parity)?;
     let bytes: Vec<u8> = words[3..6 + dc].iter().map(|&word| word as u8).collect();
     // "10: CS wrong"
     if words[6 + dc] != checksum_word(&bytes) {
         return Err(fault(10, 6 + dc));
     }
     Ok(bytes)
+}
+
+/// DID to CS of the packet that the words begin with, taken as found, or its first fault. Request A13: "ten-bit export takes them as found and
+/// tests as A1, but gives 8 only for a word over 3FFh, CS too, and never 10".
+pub fn found_in_front(words: &[u16]) -> Result<Vec<u16>, Fault> {
+    begins(words)?;
+    all_right(words, 3, 6, has_ten_bits)?;
+    let dc = whole(words)?;
+    all_right(words, 6, 7 + dc, has_ten_bits)?;
+    Ok(words[3..7 + dc].to_vec())
 }
 
 /// What the test of a packet gives back.
@@ -141,12 +183,23 @@ pub fn from_danc(danc: &[u8], system: &System) -> Result<Packet, u64> {
 /// "A: the count 1, then the system. B: the count P of locations, then P pairs: line [..] and flags [..]. C: the count W of words, then
 /// W words: packets back to back."
 pub fn sheet(system: u64, packets: &[Packet]) -> Vec<u16> {
+    let found: Vec<Found> = packets.iter().map(as_found).collect();
+    sheet_as_found(system, &found)
+}
+
+/// The same of packets as they are found: the flag in front of each.
+pub fn sheet_as_found(system: u64, packets: &[Found]) -> Vec<u16> {
     let mut sheet = vec![1, system as u16, packets.len() as u16];
     for packet in packets {
         sheet.extend([packet.line, packet.flags]);
     }
-    let words: Vec<u16> = packets.iter().flat_map(words).collect();
+    let words: Vec<u16> = packets.iter().flat_map(|packet| FLAG.into_iter().chain(packet.words.iter().copied())).collect();
     sheet.push(words.len() as u16);
     sheet.extend(words);
     sheet
+}
+
+/// A sound packet with all its words.
+pub fn as_found(packet: &Packet) -> Found {
+    Found { line: packet.line, flags: packet.flags, words: words(packet)[3..].to_vec() }
 }

@@ -2,7 +2,7 @@
 //! request A3 where that is named.
 
 use crate::lines::{Row, ROW_1080, ROW_720, ROW_OF_ANY_LINE};
-use crate::packet::{danc, from_danc, packet_in_front, sheet, Packet};
+use crate::packet::{danc, found_in_front, from_danc, packet_in_front, sheet, Fault, Found, Packet};
 
 /// What laying gives back, and the area after it.
 pub struct Laid {
@@ -140,8 +140,7 @@ pub fn lay_by(systems: Systems, sheet: &[u16], packing: u64, area: &[u8]) -> Lai
 /// has 20 behind 6.
 fn laying(systems: Systems, sheet: &[u16], packing: u64, area: &[u8]) -> Result<Laid, SheetRefusal> {
     refuse_if(packing != 1 && packing != 2, 1, 0)?;
-    let sections = sections(sheet).ok_or((2, 0))?;
-    let system = systems(sections.system as u64).ok_or((3, 0))?;
+    let (sections, system) = sections_and_system(systems, sheet)?;
     refuse_if(area.len() != system.area_bytes(), 4, 0)?;
     let dancs: Vec<Vec<u8>> = packets_of_sections(&sections, &system)?.iter().map(danc).collect();
     let (blocks, string) = (system.blocks(), dancs.concat());
@@ -161,14 +160,39 @@ fn laying(systems: Systems, sheet: &[u16], packing: u64, area: &[u8]) -> Result<
 
 /// The system and the packets of a sheet. "The lister [..] makes the tests 2, 3, 5 to 11". Request A3 has 20 among them.
 pub fn listed(systems: Systems, sheet: &[u16]) -> Result<(System, Vec<Packet>), SheetRefusal> {
-    let sections = sections(sheet).ok_or((2, 0))?;
-    let system = systems(sections.system as u64).ok_or((3, 0))?;
+    let (sections, system) = sections_and_system(systems, sheet)?;
     let packets = packets_of_sections(&sections, &system)?;
     Ok((system, packets))
 }
 
-/// The tests 5 to 11, and 20. Request A3: "laying and the lister test it after 6 on all locations".
+/// The same with packets as they are found. Request A13: "ten-bit export takes them as found and tests as A1".
+pub fn listed_as_found(systems: Systems, sheet: &[u16]) -> Result<(System, Vec<Found>), SheetRefusal> {
+    let (sections, system) = sections_and_system(systems, sheet)?;
+    let located = located(&sections, &system, |left| found_in_front(left).map(|words| (words.len() + 3, words)))?;
+    Ok((system, located.into_iter().map(|((line, flags), words)| Found { line, flags, words }).collect()))
+}
+
+/// The tests 2 and 3.
+fn sections_and_system(systems: Systems, sheet: &[u16]) -> Result<(Sections<'_>, System), SheetRefusal> {
+    let sections = sections(sheet).ok_or((2, 0))?;
+    let system = systems(sections.system as u64).ok_or((3, 0))?;
+    Ok((sections, system))
+}
+
+/// The packets, by the tests 5 to 11 and 20.
 fn packets_of_sections(sections: &Sections, system: &System) -> Result<Vec<Packet>, SheetRefusal> {
+    // Beside DID to the last user byte a packet has the flag's three words and CS.
+    let located = located(sections, system, |left| packet_in_front(left).map(|bytes| (bytes.len() + 4, bytes)))?;
+    Ok(located.into_iter().map(|((line, flags), bytes)| Packet { line, flags, bytes }).collect())
+}
+
+/// Each packet's line and flags, and what `in_front` keeps of its words: that gives the length of the packet that some words begin with, and
+/// what is kept, or its fault. The tests 5 to 11, and 20. Request A3: "laying and the lister test it after 6 on all locations".
+fn located<P>(
+    sections: &Sections,
+    system: &System,
+    in_front: impl Fn(&[u16]) -> Result<(usize, P), Fault>,
+) -> Result<Vec<((u16, u16), P)>, SheetRefusal> {
     let locations: Vec<(u16, u16)> = sections.locations.chunks(2).map(|pair| (pair[0], pair[1])).collect();
     refuse_if(locations.len() > MOST_PACKETS, 5, 0)?;
     for (k, &(line, flags)) in locations.iter().enumerate() {
@@ -177,9 +201,16 @@ fn packets_of_sections(sections: &Sections, system: &System) -> Result<Vec<Packe
     for (k, &(line, _)) in locations.iter().enumerate() {
         refuse_if(!system.allows(line), 20, k)?;
     }
-    let packets = packets_of_words(sections.words)?;
+    let mut packets = Vec::new();
+    let mut left = sections.words;
+    while !left.is_empty() {
+        let place = packets.len() as u64;
+        let (length, packet) = in_front(left).map_err(|fault| SheetRefusal { number: fault.number, place, word: fault.word })?;
+        left = &left[length..];
+        packets.push(packet);
+    }
     refuse_if(packets.len() != locations.len(), 11, 0)?;
-    Ok(packets.into_iter().zip(locations).map(|(bytes, (line, flags))| Packet { line, flags, bytes }).collect())
+    Ok(locations.into_iter().zip(packets).collect())
 }
 
 /// A sheet's system and the numbers of sections B and C, without their counts.
@@ -205,20 +236,6 @@ fn sections(sheet: &[u16]) -> Option<Sections<'_>> {
         return None;
     }
     Some(Sections { system, locations, words })
-}
-
-/// DID to the last user byte of each packet, or the first refusal 7 to 10.
-fn packets_of_words(words: &[u16]) -> Result<Vec<Vec<u8>>, SheetRefusal> {
-    let mut packets: Vec<Vec<u8>> = Vec::new();
-    let mut left = words;
-    while !left.is_empty() {
-        let place = packets.len() as u64;
-        let bytes = packet_in_front(left).map_err(|fault| SheetRefusal { number: fault.number, place, word: fault.word })?;
-        // The flag's three words and CS.
-        left = &left[bytes.len() + 4..];
-        packets.push(bytes);
-    }
-    Ok(packets)
 }
 
 /// The frame's packs in packing 1, its string bytes in packing 2: "User bytes split into 15 or 9 packs", "72 or 42 string bytes".

@@ -14,7 +14,7 @@ pub struct Draft {
     count_p_off: u16,
     locations: Vec<[u16; 2]>,
     count_w_off: u16,
-    packets: Vec<Vec<u16>>,
+    pub packets: Vec<Vec<u16>>,
     behind: Vec<u16>,
     cut: usize,
 }

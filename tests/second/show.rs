@@ -13,6 +13,8 @@ const FIELDS: [&[&str]; CALLS] = [
     &["number", "place", "word", "packets", "bytes"],
     &["number", "place", "packets", "numbers"],
     &["number", "word", "kind"],
+    &["number", "place", "word", "packets", "bytes"],
+    &["number", "place", "packets", "numbers"],
 ];
 
 /// What a call is given, each part in at most `most` rows.
@@ -36,15 +38,15 @@ pub fn show_call(call: &Call, most: usize) {
             println!("  string of {} bytes, hex:", string.len());
             show_rows(&string.chunks(32).map(hex_bytes).collect::<Vec<_>>(), most);
         }
-        Call::MxfWrite { sheet, fi, element } => {
-            println!("  mxf write, FI {}", u8::from(*fi));
+        Call::MxfWrite { sheet, fi, element, .. } => {
+            println!("  {}, FI {}", NAMES[call.which()], u8::from(*fi));
             println!("  sheet of {} numbers, hex:", sheet.len());
             show_rows(&sheet_rows(sheet), most);
             println!("  element buffer of {} bytes, hex:", element.len());
             show_rows(&element.chunks(32).map(hex_bytes).collect::<Vec<_>>(), most);
         }
-        Call::MxfRead { system, fi, element, buffer } => {
-            println!("  mxf read, system {system}, FI {}", u8::from(*fi));
+        Call::MxfRead { system, fi, element, buffer, .. } => {
+            println!("  {}, system {system}, FI {}", NAMES[call.which()], u8::from(*fi));
             println!("  element of {} bytes, hex, by offset:", element.len());
             show_rows(&element_rows(element), most);
             show_buffer(buffer, most);

@@ -3,7 +3,8 @@
 use std::ops::Range;
 
 use crate::cases::Call;
-use crate::element::{self, ELEMENT_MAX, ELEMENT_SHEET_MAX};
+use crate::element::{self, ELEMENT_SHEET_MAX};
+use crate::element10::{self, ELEMENT10_MAX};
 use crate::packet;
 use crate::rules::{area_with, lay, long_packs, read, system, SHEET_MAX};
 
@@ -38,8 +39,8 @@ fn sheet(call: &Call) -> Option<Vec<u16>> {
             let back = read(*system, area, &[0; SHEET_MAX]);
             (back.packets > 0).then(|| back.buffer[..back.numbers as usize].to_vec())
         }
-        Call::MxfRead { system, fi, element, .. } => {
-            let back = element::read(*system, *fi, element, &[0; ELEMENT_SHEET_MAX]);
+        Call::MxfRead { ten, system: number, fi, element, .. } => {
+            let back = element::read_by(element10::coding(*ten), system, *number, *fi, element, &[0; ELEMENT_SHEET_MAX]);
             (back.packets > 0).then(|| back.buffer[..back.numbers as usize].to_vec())
         }
         Call::Walk { .. } | Call::TestPacket { .. } => None,
@@ -51,7 +52,7 @@ fn sheet(call: &Call) -> Option<Vec<u16>> {
 fn with_sheet(call: &Call, sheet: Vec<u16>) -> Option<Call> {
     match call {
         Call::Lay { packing, area, .. } => Some(Call::Lay { sheet, packing: *packing, area: area.clone() }),
-        Call::MxfWrite { fi, element, .. } => Some(Call::MxfWrite { sheet, fi: *fi, element: element.clone() }),
+        Call::MxfWrite { ten, fi, element, .. } => Some(Call::MxfWrite { ten: *ten, sheet, fi: *fi, element: element.clone() }),
         Call::Read { system, area, .. } => {
             let packing = read(*system, area, &[0; SHEET_MAX]).packing;
             let laid = lay(&sheet, packing, area);
@@ -60,13 +61,13 @@ fn with_sheet(call: &Call, sheet: Vec<u16>) -> Option<Call> {
             }
             with_area(call, laid.area)
         }
-        Call::MxfRead { system, fi, buffer, .. } => {
-            let written = element::write(&sheet, *fi, &[0; ELEMENT_MAX]);
+        Call::MxfRead { ten, system: number, fi, buffer, .. } => {
+            let written = element10::write_either(*ten, system, &sheet, *fi, &[0; ELEMENT10_MAX]);
             if written.number != 0 {
                 return None;
             }
             let element = written.element[..written.bytes as usize].to_vec();
-            Some(Call::MxfRead { system: *system, fi: *fi, element, buffer: buffer.clone() })
+            Some(Call::MxfRead { ten: *ten, system: *number, fi: *fi, element, buffer: buffer.clone() })
         }
         Call::Walk { .. } | Call::TestPacket { .. } => None,
     }

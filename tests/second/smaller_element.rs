@@ -24,16 +24,19 @@ fn element(call: &Call) -> &[u8] {
 
 /// The call with another element. A length field that was right stays right.
 fn with_element(call: &Call, mut element: Vec<u8>) -> Option<Call> {
-    let (system, fi, before, buffer) = match call {
-        Call::MxfRead { system, fi, element, buffer } => (*system, *fi, element, buffer),
+    let mut call = call.clone();
+    match &mut call {
+        Call::MxfRead { element: before, .. } => {
+            let mut mended = before.clone();
+            mend_length(&mut mended);
+            if mended == *before {
+                mend_length(&mut element);
+            }
+            *before = element;
+        }
         _ => return None,
-    };
-    let mut mended = before.clone();
-    mend_length(&mut mended);
-    if mended == *before {
-        mend_length(&mut element);
     }
-    Some(Call::MxfRead { system, fi, element, buffer: buffer.clone() })
+    Some(call)
 }
 
 /// What stands behind N, cut where the array counts say that structures end.
@@ -88,10 +91,12 @@ fn target(call: &Call) -> &[u8] {
 }
 
 fn with_target(call: &Call, target: Vec<u8>) -> Option<Call> {
-    match call {
-        Call::MxfWrite { sheet, fi, .. } => Some(Call::MxfWrite { sheet: sheet.clone(), fi: *fi, element: target }),
-        _ => None,
+    let mut call = call.clone();
+    match &mut call {
+        Call::MxfWrite { element, .. } => *element = target,
+        _ => return None,
     }
+    Some(call)
 }
 
 pub fn target_bytes(call: &Call) -> usize {

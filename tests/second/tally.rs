@@ -2,7 +2,8 @@
 
 use std::collections::BTreeMap;
 
-use crate::cases::{Call, CALLS, LAY, MXF_READ, MXF_WRITE, NAMES, READ, TEST_PACKET, WALK};
+use crate::as_found::{met, wanted};
+use crate::cases::{Call, CALLS, LAY, MXF_READ, MXF_READ10, MXF_WRITE, MXF_WRITE10, NAMES, READ, TEST_PACKET, WALK};
 use crate::pairs::{pair, pairs};
 use crate::show::show_numbers;
 
@@ -10,7 +11,7 @@ use crate::show::show_numbers;
 pub const NUMBERS: usize = 21;
 
 /// Numbers that a call cannot give, and why.
-const CANNOT: [(usize, &[usize], &str); 17] = [
+const CANNOT: [(usize, &[usize], &str); 23] = [
     (LAY, &[13, 14, 15, 16], "laying does not look at packs or strings that are there already"),
     (LAY, &[17], "laying writes neither a sheet nor an element"),
     (LAY, &[18, 19], "these are tests of an element's packets and of an element"),
@@ -32,18 +33,30 @@ const CANNOT: [(usize, &[usize], &str); 17] = [
     (MXF_READ, &[18], "an element's packets have lines; line 0 is 19"),
     (TEST_PACKET, &[1, 2, 3, 4, 5, 6], "a packet alone has neither packing nor sheet nor area"),
     (TEST_PACKET, &[11, 12, 13, 14, 15, 16, 17, 18, 19, 20], "nor a location, nor is it laid, read or written"),
+    (MXF_WRITE10, &[1, 4, 12, 13, 14, 15, 16], "as for mxf write"),
+    (MXF_WRITE10, &[10], "CS is written as it is found"),
+    (MXF_WRITE10, &[19], "as for mxf write"),
+    (MXF_READ10, &[1, 4, 12, 13, 14, 15, 16], "as for mxf read"),
+    (MXF_READ10, &[2, 6, 7, 8, 9, 10, 11], "as for mxf read; what is read may be damaged"),
+    (MXF_READ10, &[18], "as for mxf read"),
 ];
 
 /// From this packet or location on a refusal is late: its place has more than ten bits.
 const LATE: u64 = 1_024;
 
 /// Numbers whose place is a packet or a location, and that have to be met as late as that.
-const BY_PACKET: [(usize, &[usize]); 4] =
-    [(LAY, &[6, 7, 8, 9, 10, 20]), (READ, &[5, 14, 15, 16, 20]), (MXF_WRITE, &[18, 20]), (MXF_READ, &[5, 20])];
+const BY_PACKET: [(usize, &[usize]); 6] = [
+    (LAY, &[6, 7, 8, 9, 10, 20]),
+    (READ, &[5, 14, 15, 16, 20]),
+    (MXF_WRITE, &[18, 20]),
+    (MXF_READ, &[5, 20]),
+    (MXF_WRITE10, &[7, 8, 9, 18, 20]),
+    (MXF_READ10, &[5, 20]),
+];
 
 /// Of the words that request A2 names, those that have to be met with each number: from the first to the last of a run, one of them. 260 is the
-/// last of 255 user words.
-const WORDS: [(u64, u64, u64); 19] = [
+/// last of 255 user words, 261 their CS, which is 8 in the ten-bit export alone; 10 is not given there.
+const WORDS: [(u64, u64, u64); 20] = [
     (7, 0, 0),
     (7, 1, 1),
     (7, 2, 2),
@@ -57,6 +70,7 @@ const WORDS: [(u64, u64, u64); 19] = [
     (8, 6, 6),
     (8, 7, 259),
     (8, 260, 260),
+    (8, 261, 261),
     (9, 7, 7),
     (9, 8, 260),
     (9, 261, 261),
@@ -97,10 +111,12 @@ fn name_of((number, first, last): &(u64, u64, u64)) -> String {
 /// The shapes that have to be met in a call.
 fn shapes(call: usize) -> Vec<String> {
     let all = WORDS.iter().flat_map(|run| match (call, run) {
+        (READ | WALK | MXF_READ | MXF_READ10, _) => vec![],
+        (MXF_WRITE10, (10, ..)) | (LAY | MXF_WRITE | TEST_PACKET, (8, 261, _)) => vec![],
         (TEST_PACKET, (7, 0..=2, _)) => FLAG.map(|how| format!("{}, {how}", name_of(run))).to_vec(),
         _ => vec![name_of(run)],
     });
-    all.filter(|_| [LAY, MXF_WRITE, TEST_PACKET].contains(&call)).collect()
+    all.collect()
 }
 
 fn cannot(call: usize, number: usize) -> bool {
@@ -108,13 +124,14 @@ fn cannot(call: usize, number: usize) -> bool {
 }
 
 /// Counts of a run: numbers by call, those with a late place too, shapes of words by call, types of sound packets, faults beside a picture line,
-/// and kinds of cases.
+/// what request A13 asks for, and kinds of cases.
 pub struct Tally {
     met: [[u64; NUMBERS]; CALLS],
     late: [[u64; NUMBERS]; CALLS],
     words: BTreeMap<(usize, String), u64>,
     types: [u64; 2],
     pairs: BTreeMap<(usize, String), u64>,
+    found: BTreeMap<(usize, String), u64>,
     kinds: BTreeMap<String, u64>,
 }
 
@@ -126,6 +143,7 @@ impl Tally {
             words: BTreeMap::new(),
             types: [0; 2],
             pairs: BTreeMap::new(),
+            found: BTreeMap::new(),
             kinds: BTreeMap::new(),
         }
     }
@@ -145,6 +163,9 @@ impl Tally {
         if let Some(pair) = pair(call, fields).filter(|_| number != 0) {
             *self.pairs.entry((which, pair)).or_default() += 1;
         }
+        for one in met(call, fields) {
+            *self.found.entry((which, one)).or_default() += 1;
+        }
         *self.kinds.entry(kind).or_default() += 1;
     }
 
@@ -152,8 +173,8 @@ impl Tally {
         self.met.iter().flatten().sum()
     }
 
-    /// Numbers that can be met in a call, or with a late place, and shapes of words, types of packets and faults beside a picture line, that were
-    /// not.
+    /// Numbers that can be met in a call, or with a late place, and shapes of words, types of packets, faults beside a picture line and what
+    /// request A13 asks for, that were not.
     pub fn missed(&self) -> Vec<String> {
         let all = (0..CALLS).flat_map(|call| (0..NUMBERS).map(move |number| (call, number)));
         let missed = all.filter(|&(call, number)| self.met[call][number] == 0 && !cannot(call, number));
@@ -166,7 +187,9 @@ impl Tally {
         let no_type = (0..2).filter(|&k| self.types[k] == 0).map(|k| format!("a sound packet of type {}", k + 1));
         let pairs = (0..CALLS).flat_map(|call| pairs(call).into_iter().map(move |pair| (call, pair)));
         let no_pair = pairs.filter(|pair| !self.pairs.contains_key(pair)).map(|(call, pair)| format!("{pair}, on {}", NAMES[call]));
-        never.chain(never_late).chain(no_shape).chain(no_type).chain(no_pair).collect()
+        let found = (0..CALLS).flat_map(|call| wanted(call).into_iter().map(move |one| (call, one)));
+        let not_found = found.filter(|one| !self.found.contains_key(one)).map(|(call, one)| format!("{one}, on {}", NAMES[call]));
+        never.chain(never_late).chain(no_shape).chain(no_type).chain(no_pair).chain(not_found).collect()
     }
 
     pub fn show(&self) {
@@ -184,14 +207,19 @@ impl Tally {
             println!("  {}: {}", NAMES[call], late.join(", "));
         }
         println!("first words at fault:");
-        for call in [LAY, MXF_WRITE, TEST_PACKET] {
+        for call in [LAY, MXF_WRITE, TEST_PACKET, MXF_WRITE10] {
             let times = |shape: String| format!("{shape}: {}", self.words.get(&(call, shape.clone())).unwrap_or(&0));
             println!("  {}: {}", NAMES[call], shapes(call).into_iter().map(times).collect::<Vec<_>>().join("; "));
         }
         println!("faults beside a picture line:");
-        for call in [LAY, READ, WALK, MXF_WRITE, MXF_READ] {
+        for call in [LAY, READ, WALK, MXF_WRITE, MXF_READ, MXF_WRITE10, MXF_READ10] {
             let times = |pair: String| format!("{pair}: {}", self.pairs.get(&(call, pair.clone())).unwrap_or(&0));
             println!("  {}: {}", NAMES[call], pairs(call).into_iter().map(times).collect::<Vec<_>>().join("; "));
+        }
+        println!("as found, and the fields of elements:");
+        for call in [MXF_READ, MXF_WRITE10, MXF_READ10] {
+            let times = |one: String| format!("{one}: {}", self.found.get(&(call, one.clone())).unwrap_or(&0));
+            println!("  {}: {}", NAMES[call], wanted(call).into_iter().map(times).collect::<Vec<_>>().join("; "));
         }
         println!("sound packets that were tested: {} of type 1, {} of type 2", self.types[0], self.types[1]);
         println!("cannot be met (-):");
