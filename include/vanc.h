@@ -12,7 +12,8 @@
  *    5  more than 1,275 packets                                                  0 for a sheet, 1275 on reading
  *    6  line or flags out of range                                               the location
  *    7  fewer than 7 words left, or no 000h 3FFh 3FFh                            the packet
- *    8  a word from DID to the last user word is not its byte with parity        the packet
+ *    8  a word from DID to the last user word is not its byte with parity;       the packet
+ *       vanc_mxf_write10: a word from DID to CS is over 3FFh
  *    9  fewer than DC + 7 words left                                             the packet
  *   10  checksum word wrong                                                      the packet
  *   11  packets and locations differ in number                                   0
@@ -36,7 +37,7 @@
  * DID, 4 SDID or DBN, 5 DC, 6 + i user word i, and DC + 6 is CS.
  *
  *    7  the first of the flag's words that is wrong; where none is, the first word that is missing
- *    8  the word that is not its byte with parity
+ *    8  the word that is not its byte with parity; vanc_mxf_write10: the word that is over 3FFh
  *    9  the first word that is missing: as many as are left
  *   10  CS
  *
@@ -64,14 +65,16 @@ extern "C" {
 /*
  * This version, and as one number for #if: 10000 x major + 100 x minor + patch.
  *
+ * Since 0.6.0 there are vanc_mxf_write10 and vanc_mxf_read10, for elements of ten-bit samples; nothing else has changed.
+ *
  * Since 0.5.0 a packet on a picture line is refused with 20, by every call that takes a line: a sheet, an area or an element that older versions
  * took is refused where it has one.
  *
  * Since 0.4.0 `word` stands behind `place` in vanc_laid and vanc_element_written, which have grown from 32 to 40 bytes: what was compiled with
  * an older header has to be compiled with this one before it is linked with this library.
  */
-#define VANC_VERSION "0.5.0"
-#define VANC_VERSION_NUMBER 500
+#define VANC_VERSION "0.6.0"
+#define VANC_VERSION_NUMBER 600
 
 /* The toolchain that all was proved with. */
 #define VANC_TOOLCHAIN "rattle-kit-5b-plain logic 097e4c862dff5811"
@@ -120,7 +123,7 @@ enum {
 };
 
 /* What a number says, in words: "done" for 0, "no number of a refusal" for one that no call gives. The command `vanc` says the same words; for 20
- * it names the line. */
+ * it names the line, and for 8 of a sheet that it takes as found, that a word is over 3FFh. */
 static inline const char *vanc_refusal_text(uint64_t number)
 {
     switch (number) {
