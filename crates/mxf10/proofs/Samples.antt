@@ -10,7 +10,7 @@ use lib.Seq.{length-take-le, getD-take}
 use Rattle.rules.specs.Danc.{bytesOf}
 use Rattle.rules.specs.Laying.{low}
 use Rattle.mxf.specs.Element.{ten}
-use Rattle.mxf.specs.Judging.{twoIn, fourIn, samplesIn, arrayFor, dcIn, packetIn}
+use Rattle.mxf.specs.Judging.{twoIn, samplesIn, arrayFor, dcIn, packetIn}
 use Rattle.mxf.specs.Parts.{Whole}
 use Rattle.mxf.proofs.JudgingLaws.{two-drop}
 

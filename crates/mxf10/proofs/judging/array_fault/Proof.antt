@@ -1,6 +1,6 @@
 -- `mxf10::judging::array_fault` meets its contract: sample count, array and DC, each missing, wrong or right. Assumes nothing.
-use Prim.Native.Nat.{ℕ, _+_, _/_, _%_, _≤_}
-use mathlib.Core.Path.{_≡_, sym, ap, _∙_}
+use Prim.Native.Nat.{ℕ, _+_, _≤_}
+use mathlib.Core.Path.{_≡_, ap, _∙_}
 use mathlib.Core.Logic.{⊎-elim}
 use mathlib.Core.List.{List}
 use native.Mathlib.Omega.{arith}
@@ -154,14 +154,6 @@ add-if8 c = search needs
 add-result-4 : tie.Need-add-result-4
 add-result-4 c = search needs
 
--- DC and the other samples, as the code reckons them
-module _ (c : tie.After-two2) where
-  abbrev reckoned : ℕ
-  reckoned = c .two2 .result / 4 % 256 + 4
-
-  dc-is : reckoned ≡ dcIn ten (s (c .before .before .before)) + 4
-  dc-is = ap (λ (n : ℕ). n / 4 % 256 + 4) (c .two2 .ensures .0)
-
 returns-6 : tie.Need-returns-6
 returns-6 c =
     let k = c .before .before in
@@ -170,11 +162,11 @@ returns-6 c =
     let f = d b .before .before .before in
     let e = d b .before .before .two .ensures .0 in
     let x = k .before .four2 .ensures .0 in
-    let y = dc-is (c .before) in (
+    let y = c .before .two2 .ensures .0 in (
       λ o.
           dc-wrong ten _ _ (f .before .before .pre .0) o (f .if1 .left) (least (d b)) (most (d b)) (g .if4 .left) (room b) (there b)
           (omega arith)
-          (λ z. c .if8 .taken (y ∙ z ∙ sym e)),
+          (λ z. let h = c .if8 .taken in omega arith),
       λ z. absurd (omega arith),
     )
 
@@ -186,11 +178,13 @@ returns-7 c =
     let f = d b .before .before .before in
     let e = d b .before .before .two .ensures .0 in
     let x = k .before .four2 .ensures .0 in
-    let y : dcIn ten (s b) + 4 ≡ twoIn (s b) 4 = sym (dc-is (c .before)) ∙ c .if8 .left ∙ e in (
+    let y = c .before .two2 .ensures .0 in
+    let h = c .if8 .left in
+    let dc : dcIn ten (s b) + 4 ≡ twoIn (s b) 4 = omega arith in (
       λ o.
           array-right ten _ _ (f .before .before .pre .0) o (f .if1 .left) (least (d b)) (most (d b)) (g .if4 .left) (room b) (there b)
-          (omega arith) y,
-      λ z. record { there = there b; room = room b; dc = y },
+          (omega arith) dc,
+      λ z. record { there = there b; room = room b; dc = dc },
     )
 
 pub array-fault-spec : {M : Type 1} → statement M
