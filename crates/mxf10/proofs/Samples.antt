@@ -1,6 +1,6 @@
 -- A structure that has passed its tests shows a packet with as many user words as its DC says.
 -- Assumes nothing.
-use Prim.Native.Nat.{ℕ, _+_, _-_, _*_, _/_, _%_, _≤_}
+use Prim.Native.Nat.{ℕ, _+_, _*_, _/_, _%_, _≤_}
 use mathlib.Core.Path.{_≡_, ap, _∙_}
 use mathlib.Core.Bool.{Bool}
 use mathlib.Core.List.{List, [], _∷_}
@@ -13,20 +13,11 @@ use Rattle.mxf.specs.Element.{ten}
 use Rattle.mxf.specs.Judging.{twoIn, samplesIn, arrayFor, dcIn, packetIn}
 use Rattle.mxf.specs.Parts.{Whole}
 use Rattle.mxf.proofs.JudgingLaws.{two-drop}
-
-samples-length : (s : List ℕ) (n : ℕ) → arrayFor ten n ≤ length s → n ≤ length (samplesIn s)
-samples-length [] n l = omega arith
-samples-length (a ∷ []) n l = omega arith
-samples-length (a ∷ b ∷ []) n l = omega arith
-samples-length (a ∷ b ∷ c ∷ []) n l = omega arith
-samples-length (a ∷ b ∷ c ∷ d ∷ s) n l =
-    let m : arrayFor ten (n - 3) ≤ length s = omega arith in
-    let h = samples-length s (n - 3) m in
-    omega arith
+use Rattle.mxf10.proofs.TensLaws.{samples-length}
 
 -- ---- DC
 
--- what stands above bit 13 is not in DC's low byte
+-- what stands in front of the last two bytes is not in DC's low byte
 low-bits : (h m : ℕ) → (h * 65536 + m) / 4 % 1024 % 256 ≡ m / 4 % 256
 low-bits h m =
     let q : (h * 65536 + m) / 4 ≡ h * 16384 + m / 4 = omega arith in
