@@ -17,11 +17,11 @@ use Rattle.rules.specs.Systems.{System}
 use Rattle.rules.specs.Packet.{Mark, sound, found, Packet, body, ones, parity, word, check, raised, codedAs, coded, checkOf, words, Sound}
 use Rattle.rules.specs.Danc.{bytesOf, stringBytes}
 use Rattle.rules.specs.Sheet.{allWords}
-use Rattle.rules.specs.Numbers.{listed, refused, packetsIn}
+use Rattle.rules.specs.Numbers.{listed, refused, Row, packetsIn}
 use Rattle.rules.specs.Laying.{isWord, areWords, flagged, low, dcIn, wordsFault, packetOfWords, noWords, wordRow, packetsOfWords}
 use Rattle.rules.proofs.Basics.{never, both}
 use Rattle.rules.proofs.Lines.{allowed-none}
-use Rattle.rules.proofs.Rows.{Anything, row-read, row-laid, row-enough, row-fault}
+use Rattle.rules.proofs.Rows.{Anything, Cut, Uncut, row-read, row-laid, row-enough, row-fault}
 
 -- ---- a byte's word
 
@@ -277,13 +277,59 @@ words-uncut sys (x ∷ y ∷ z ∷ a ∷ b ∷ n ∷ t) h q =
 abbrev pub bares : List Packet → List Packet
 bares ps = map bare ps
 
--- what is laid is read: with room for its packets
-read-within : (y : System) (ps : List Packet) (left : ℕ) → All (Sound y) ps → length ps ≤ left
-    → packetsIn wordRow left 0 (allWords ps) ≡ listed (bares ps)
-unfolding wordRow
-read-within y ps left g few =
-    ap (packetsIn wordRow left 0) (sym (append-nil (allWords ps)))
-    ∙ row-read wordRow words bare (Sound y) Anything
+few-words : (ps : List Packet) → length ps ≤ length (allWords ps)
+few-words [] = omega arith
+few-words (p ∷ ps) = let k = few-words ps in let l = length-append (words p) (allWords ps) in let m = packet-words p in omega arith
+
+bare-words : (ps : List Packet) → allWords ps ≡ allWords (bares ps)
+unfolding words coded checkOf
+bare-words [] = refl
+bare-words (p ∷ ps) = ap (λ (t : List ℕ). words p ++ t) (bare-words ps)
+
+-- the words ws are those of the packets ps, each of them fine
+pub record WordsBy (Fine : Packet → Type 0) (ws : List ℕ) (ps : List Packet) : Type 0 where
+  pub whole : ws ≡ allWords ps
+  pub fine : All Fine ps
+
+-- packets back to back in words, whatever their tests are: what is laid is read, and what is read was laid
+module _ (row : Row ℕ) (Fine : Packet → Type 0) where
+  pub row-words-read : Cut row words bare Fine Anything → row .ends [] ≡ true → (ps : List Packet) → All Fine ps
+      → packetsIn row (length (allWords ps)) 0 (allWords ps) ≡ listed (bares ps)
+  row-words-read c e ps g =
+      ap (packetsIn row (length (allWords ps)) 0) (sym (append-nil (allWords ps)))
+      ∙ row-read row words bare Fine Anything c [] tt e ps (length (allWords ps)) 0 g (few-words ps)
+
+  module _ (u : Uncut row words bare Fine Anything) where
+    pub row-words-laid : ((t : List ℕ) → row .ends t ≡ true → noWords t ≡ true) → ((p : Packet) → Fine p → Fine (bare p))
+        → (ws : List ℕ) (ps : List Packet) → packetsIn row (length ws) 0 ws ≡ listed ps → WordsBy Fine ws ps
+    row-words-laid n b ws ps e =
+        let l = row-laid row words bare Fine Anything (λ x r f. tt) u (length ws) 0 ws ps tt e in
+        subst (WordsBy Fine ws) (l .packets)
+        (record {
+          whole = l .whole ∙ nothing (allWords (l .items)) (l .tail) (n (l .tail) (l .ends)) ∙ bare-words (l .items);
+          fine = all-bare (l .items) (l .good);
+        })
+      where
+        nothing : (ws t : List ℕ) → noWords t ≡ true → ws ++ t ≡ ws
+        nothing ws [] e = append-nil ws
+        nothing ws (x ∷ t) e = never (cc)
+
+        all-bare : (ps : List Packet) → All Fine ps → All Fine (bares ps)
+        all-bare [] g = none
+        all-bare (p ∷ ps) (one g gs) = one (b p g) (all-bare ps gs)
+
+    -- a packet is never empty
+    pub row-words-shrink : (s : List ℕ) → row .fault s ≡ 0 → length (row .rest s) < length s
+    row-words-shrink s e =
+        let w = u s tt e in
+        let k = packet-words (w .0) in
+        let l : length s ≡ length (words (w .0)) + length (row .rest s) = ap length (w .2) ∙ length-append (words (w .0)) (row .rest s) in
+        omega arith
+
+pub words-read : (y : System) (ps : List Packet) → All (Sound y) ps → packetsOfWords (allWords ps) ≡ listed (bares ps)
+unfolding packetsOfWords wordRow
+words-read y ps g =
+    row-words-read wordRow (Sound y)
     (record {
       follows = λ x r w. tt;
       goes = λ x r w. goes-on y x r w;
@@ -291,46 +337,18 @@ read-within y ps left g few =
       packet = λ x r w z. packet-back y x r w;
       rest = λ x r w z. rest-back y x r w;
     })
-    [] tt refl ps left 0 g few
-
-few-words : (ps : List Packet) → length ps ≤ length (allWords ps)
-few-words [] = omega arith
-few-words (p ∷ ps) = let k = few-words ps in let l = length-append (words p) (allWords ps) in let m = packet-words p in omega arith
-
-pub words-read : (y : System) (ps : List Packet) → All (Sound y) ps → packetsOfWords (allWords ps) ≡ listed (bares ps)
-unfolding packetsOfWords
-words-read y ps g = read-within y ps (length (allWords ps)) g (few-words ps)
-
-bare-words : (ps : List Packet) → allWords ps ≡ allWords (bares ps)
-unfolding words coded checkOf
-bare-words [] = refl
-bare-words (p ∷ ps) = ap (λ (t : List ℕ). words p ++ t) (bare-words ps)
+    refl ps g
 
 bare-one : (y : System) (p : Packet) → Sound y p → Sound y (bare p)
 bare-one y p g = record { did = g .did; sdid = g .sdid; many = g .many; user = g .user; line = allowed-none y; flags = omega arith; mark = g .mark }
 
-bare-sound : (y : System) (ps : List Packet) → All (Sound y) ps → All (Sound y) (bares ps)
-bare-sound y [] g = none
-bare-sound y (p ∷ ps) (one g gs) = one (bare-one y p g) (bare-sound y ps gs)
-
 -- what is read was laid, whatever the system, since a packet that shows no location is on no line
-pub record WordsOf (y : System) (ws : List ℕ) (ps : List Packet) : Type 0 where
-  pub whole : ws ≡ allWords ps
-  pub sound : All (Sound y) ps
+abbrev pub WordsOf : System → List ℕ → List Packet → Type 0
+WordsOf y ws ps = WordsBy (Sound y) ws ps
 
 pub words-laid : (y : System) (ws : List ℕ) (ps : List Packet) → packetsOfWords ws ≡ listed ps → WordsOf y ws ps
 unfolding packetsOfWords wordRow
-words-laid y ws ps e =
-    let l = row-laid wordRow words bare (Sound y) Anything (λ x r b. tt) (words-uncut y) (length ws) 0 ws ps tt e in
-    subst (WordsOf y ws) (l .packets)
-    (record {
-      whole = l .whole ∙ nothing (allWords (l .items)) (l .tail) (l .ends) ∙ bare-words (l .items);
-      sound = bare-sound y (l .items) (l .good);
-    })
-  where
-    nothing : (ws t : List ℕ) → noWords t ≡ true → ws ++ t ≡ ws
-    nothing ws [] e = append-nil ws
-    nothing ws (x ∷ t) e = never (cc)
+words-laid y ws ps e = row-words-laid wordRow (Sound y) (words-uncut y) (λ t z. z) (bare-one y) ws ps e
 
 -- from one list only, but for the locations, which section B has
 pub words-unique : (y : System) (ps qs : List Packet) → All (Sound y) ps → All (Sound y) qs → allWords ps ≡ allWords qs → bares ps ≡ bares qs
@@ -380,11 +398,10 @@ fault-long s e =
     go false false false n e = refl
 
 words-shrink : (s : List ℕ) → wordRow .fault s ≡ 0 → length (wordRow .rest s) < length s
-words-shrink s e =
-    let w = words-uncut (record { sequences = 0; last = 0 }) s tt e in
-    let k = packet-words (w .0) in
-    let l : length s ≡ length (words (w .0)) + length (wordRow .rest s) = ap length (w .2) ∙ length-append (words (w .0)) (wordRow .rest s) in
-    omega arith
+words-shrink s e = row-words-shrink wordRow (Sound nowhere) (words-uncut nowhere) s e
+  where
+    nowhere : System
+    nowhere = record { sequences = 0; last = 0 }
 
 -- how many packets section C may have does not matter once they are enough
 pub words-enough : (f g i : ℕ) (s : List ℕ) → length s ≤ f → length s ≤ g → packetsIn wordRow f i s ≡ packetsIn wordRow g i s
