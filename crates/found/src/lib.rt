@@ -11,7 +11,6 @@ ghost use Rattle.rules.specs.Numbers.{refused};
 ghost use Rattle.rules.specs.Laying.{fromPacket, shaped, listTestsBy};
 ghost use Rattle.rules.specs.Found.{areTen, foundFault, packetsFound, tenBefore, foundWordAt};
 ghost use Rattle.found.specs.Checked.{countedOf, checkedOf, checkedWith, checkedIn, ChecksFound};
-
 use frame::Line;
 use packet::low_byte;
 use sheet::wide;
