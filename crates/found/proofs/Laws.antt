@@ -162,10 +162,11 @@ module _ (at : ℕ) (ws : List ℕ) where
     pub all-there : at + (getD ws (at + 5) 0 % 256 + 7) ≤ length ws
     all-there = row-there foundFault foundOfWords at ws found-row z
 
-    pub at-next : (dc k : ℕ) → dc ≡ getD ws (at + 5) 0 % 256 → wholeFrom (k + 1) (at + (dc + 7)) ws ≡ wholeFrom k at ws
-    at-next dc k e =
+    pub at-next : (n k : ℕ) → n ≡ getD ws (at + 5) 0 % 256 + 7 → wholeFrom (k + 1) (at + n) ws ≡ wholeFrom k at ws
+    at-next n k e =
+        let dc : ℕ = getD ws (at + 5) 0 % 256 in
         let later : Outcome = packetsFrom foundFault foundOfWords (at + (dc + 7)) ws (k + 1) in
-        sym (ap (addTo k) (row-next foundFault foundOfWords at ws found-row z dc k e) ∙ add-also k (foundOfWords (drop at ws)) later)
+        rw e (sym (ap (addTo k) (row-next foundFault foundOfWords at ws found-row z dc k refl) ∙ add-also k (foundOfWords (drop at ws)) later))
 
 -- ---- the list
 

@@ -37,14 +37,11 @@ returns-2 c =
     let f : tie.Else1 = c .before .before in
     fault-head (ws f) (flag f) (over-head (ws f) _ (c .before .over-word .ensures) (long f) (c .if2 .taken))
 
-shared-slice-read-low-byte : tie.Need-shared-slice-read-low-byte
-shared-slice-read-low-byte c = let l = long (c .before .before .before) in omega arith
+shared-slice-read-size-by : tie.Need-shared-slice-read-size-by
+shared-slice-read-size-by c = let l = long (c .before .before .before) in omega arith
 
-low-byte-requires : tie.Need-low-byte-requires
-low-byte-requires c κs = search needs
-
-add-if3 : tie.Need-add-if3
-add-if3 c = search needs
+size-by-requires : tie.Need-size-by-requires
+size-by-requires c κs = search needs
 
 returns-3 : tie.Need-returns-3
 returns-3 c =
@@ -65,8 +62,7 @@ fault-of-spec =
     returns
     over-word-requires
     returns-2
-    shared-slice-read-low-byte
-    low-byte-requires
-    add-if3
+    shared-slice-read-size-by
+    size-by-requires
     returns-3
     returns-4)

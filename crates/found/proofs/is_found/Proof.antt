@@ -1,5 +1,5 @@
 -- `found::is_found` meets its contract: where the flag stands and all words are there, 8 alone is left. Assumes nothing.
-use Prim.Native.Nat.{ℕ, _+_, _-_, _≤_}
+use Prim.Native.Nat.{ℕ, _-_, _≤_}
 use mathlib.Core.Path.{_≡_, sym, _∙_}
 use mathlib.Core.Bool.{false}
 use mathlib.Core.List.{List}
@@ -29,14 +29,11 @@ is-flagged-requires c κs = search needs
 returns : tie.Need-returns
 returns c = not-fine 7 _ (omega arith) (fault-flag _ (not-false _ (sym (c .before .is-flagged .ensures) ∙ not-true _ (c .if1 .taken))))
 
-shared-slice-read-low-byte : tie.Need-shared-slice-read-low-byte
-shared-slice-read-low-byte c = let l = long (c .before) in omega arith
+shared-slice-read-size-by : tie.Need-shared-slice-read-size-by
+shared-slice-read-size-by c = let l = long (c .before) in omega arith
 
-low-byte-requires : tie.Need-low-byte-requires
-low-byte-requires c κs = search needs
-
-add-end : tie.Need-add-end
-add-end c = search needs
+size-by-requires : tie.Need-size-by-requires
+size-by-requires c κs = search needs
 
 returns-2 : tie.Need-returns-2
 returns-2 c = let f : tie.Else1 = c .before .before .before in not-whole (ws f) (omega arith)
@@ -55,9 +52,9 @@ are-ten-requires c κs = search needs
 
 returns-3 : tie.Need-returns-3
 returns-3 c =
-    let d : tie.After-low-byte = c .before .before .before in
+    let d : tie.After-size-by = c .before .before .before in
     let f : tie.Else1 = d .before .before in
-    c .are-ten .ensures ∙ one-test (ws f) (flag f) (omega arith) (d .low-byte .result + 7 - 3) (omega arith)
+    c .are-ten .ensures ∙ one-test (ws f) (flag f) (omega arith) (d .size-by .result - 3) (omega arith)
 
 pub is-found-spec : {M : Type 1} → statement M
 is-found-spec =
@@ -65,9 +62,8 @@ is-found-spec =
     (tie.spec
     is-flagged-requires
     returns
-    shared-slice-read-low-byte
-    low-byte-requires
-    add-end
+    shared-slice-read-size-by
+    size-by-requires
     returns-2
     sub-are-ten
     part-are-ten-start

@@ -53,23 +53,20 @@ part-is-found-end c = search needs
 is-found-requires : tie.Need-is-found-requires Inv-loop μ-loop
 is-found-requires c κs = search needs
 
-add-low-byte : tie.Need-add-low-byte Inv-loop μ-loop
-add-low-byte c = search needs
+add-size-by : tie.Need-add-size-by Inv-loop μ-loop
+add-size-by c = search needs
 
-mul-low-byte : tie.Need-mul-low-byte Inv-loop μ-loop
-mul-low-byte c = let l = there c in omega arith
+mul-size-by : tie.Need-mul-size-by Inv-loop μ-loop
+mul-size-by c = let l = there c in omega arith
 
-shared-slice-read-low-byte : tie.Need-shared-slice-read-low-byte Inv-loop μ-loop
-shared-slice-read-low-byte c = let l = there (c .before) in omega arith
+shared-slice-read-size-by : tie.Need-shared-slice-read-size-by Inv-loop μ-loop
+shared-slice-read-size-by c = let l = there (c .before) in omega arith
 
-low-byte-requires : tie.Need-low-byte-requires Inv-loop μ-loop
-low-byte-requires c κs = search needs
+size-by-requires : tie.Need-size-by-requires Inv-loop μ-loop
+size-by-requires c κs = search needs
 
 add-at : tie.Need-add-at Inv-loop μ-loop
 add-at c = search needs
-
-add-at-2 : tie.Need-add-at-2 Inv-loop μ-loop
-add-at-2 c = search needs
 
 add-k : tie.Need-add-k Inv-loop μ-loop
 add-k c = search needs
@@ -82,7 +79,7 @@ loop-again c =
     let b : tie.Then1 Inv-loop μ-loop = c .before .before in
     let l = b .before .before .before in
     let m = there b in
-    (omega arith, omega arith, at-next (at b) (ws b) (fine b) _ (l .loop .k) (c .low-byte .ensures) ∙ l .loop .inv .2)
+    (omega arith, omega arith, at-next (at b) (ws b) (fine b) _ (l .loop .k) (c .size-by .ensures) ∙ l .loop .inv .2)
 
 returns : tie.Need-returns Inv-loop μ-loop
 returns c =
@@ -125,12 +122,11 @@ packets-spec =
     part-is-found-start
     part-is-found-end
     is-found-requires
-    add-low-byte
-    mul-low-byte
-    shared-slice-read-low-byte
-    low-byte-requires
+    add-size-by
+    mul-size-by
+    shared-slice-read-size-by
+    size-by-requires
     add-at
-    add-at-2
     add-k
     loop-less
     loop-again
