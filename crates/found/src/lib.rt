@@ -166,7 +166,7 @@ fn list_tests(system: u64, last: Line, s: &[u16]) -> Checked
     }
     let end = 3 + 2 * p;
     let ls = &s[3..end];
-    let k = sheet::placed(last, p, ls);
+    let k = sheet::in_place(last, ls);
     if k != p {
         let t = sheet::location_fault(last, p, k, ls);
         return refusal(t.number, t.place, 0);

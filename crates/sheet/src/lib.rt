@@ -76,7 +76,7 @@ fn standing(last: Line, ls: &[u16]) -> usize
 
 // How many locations in front of the first that is out of range or on a line that is not allowed: where there is none, neither 6 nor 20 is
 // given.
-fn in_place(last: Line, ls: &[u16]) -> usize
+pub fn in_place(last: Line, ls: &[u16]) -> usize
     ensures { λ r. ⌜ ((y : System) → y .last ≡ last .0 → r ≡ inFront (inPlace y) (now (ls .entry))) ⌝ }
 {
     let mut k = 0;
@@ -129,7 +129,7 @@ fn all_in_place(last: Line, ls: &[u16]) -> bool
 }
 
 // What in_place gives, of P locations: the first that is not in its place is looked for only where there is one.
-pub fn placed(last: Line, p: usize, ls: &[u16]) -> usize
+fn placed(last: Line, p: usize, ls: &[u16]) -> usize
     requires { ⌜ length (now ls) ≡ 2 * p ⌝ }
     ensures { λ r. ⌜ ((y : System) → y .last ≡ last .0 → r ≡ inFront (inPlace y) (now (ls .entry))) ⌝ }
 {

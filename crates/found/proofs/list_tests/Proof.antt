@@ -49,8 +49,8 @@ part-ls-start c = search needs
 part-ls-end : tie.Need-part-ls-end
 part-ls-end c = let l = begins (c .before) in omega arith
 
-placed-requires : tie.Need-placed-requires
-placed-requires c κs = search needs
+in-place-requires : tie.Need-in-place-requires
+in-place-requires c κs = search needs
 
 location-fault-requires : tie.Need-location-fault-requires
 location-fault-requires c κs = search needs
@@ -66,7 +66,7 @@ returns-2 c =
     let s : List ℕ = b .before .before .before .before .args .s .now in
     let p = b .before .wide .ensures .0 in
     λ y e.
-    let k = n .before .placed .ensures y e in
+    let k = n .before .in-place .ensures y e in
     c .refusal2 .ensures
     ∙ location-refused _ y s _ p (b .before .before .before .before .pre) (omega arith) _ k (n .if2 .taken) _
     (c .before .location-fault .ensures y e k (n .if2 .taken))
@@ -105,7 +105,7 @@ returns-3 c =
     let p = b .before .wide .ensures .0 in
     let t = r .before .before .packets .ensures in
     λ y e.
-    let k = n .before .placed .ensures y e in
+    let k = n .before .in-place .ensures y e in
     c .refusal3 .ensures
     ∙ packet-refused _ y s _ p (b .before .before .before .before .pre) (omega arith) _ k (n .if2 .left) _ t (r .if3 .taken) _
     (c .before .word-named .ensures)
@@ -123,7 +123,7 @@ returns-4 c =
     let p = b .before .wide .ensures .0 in
     let t = r .before .before .packets .ensures in
     λ y e.
-    let k = n .before .placed .ensures y e in
+    let k = n .before .in-place .ensures y e in
     c .refusal4 .ensures
     ∙ differ _ y s _ p (b .before .before .before .before .pre) (omega arith) _ k (n .if2 .left) _ t (r .if3 .left) (c .before .if4 .taken)
 
@@ -137,7 +137,7 @@ returns-5 c =
     let p = b .before .wide .ensures .0 in
     let t = r .before .before .packets .ensures in
     λ y e.
-    let k = n .before .placed .ensures y e in
+    let k = n .before .in-place .ensures y e in
     whole _ y s _ p (b .before .before .before .before .pre) (omega arith) _ k (n .if2 .left) _ t (r .if3 .left) (c .if4 .left)
 
 pub list-tests-spec : {M : Type 1} → statement M
@@ -153,7 +153,7 @@ list-tests-spec =
     sub-ls
     part-ls-start
     part-ls-end
-    placed-requires
+    in-place-requires
     location-fault-requires
     refusal-requires-2
     returns-2
