@@ -22,31 +22,37 @@ fn asks_for_help(count: usize) -> bool {
     text::is(&word[..n], b"--help")
 }
 
-// `--ten` behind all other arguments.
-fn ends_in_ten(count: usize) -> bool {
-    if count < 1 {
-        return false;
-    }
+fn is_ten(i: usize) -> bool {
     let mut word = io::buffer();
-    let n = arguments::word(count - 1, &mut word);
+    let n = arguments::word(i, &mut word);
     text::is(&word[..n], b"--ten")
 }
 
-// Of so many words, `--ten` is the last or none of them, so that no file is named so where another argument was forgotten.
+// `--ten` stands behind all other arguments. In place of the last of them it is refused, so that no file gets that name where one was forgotten.
 fn write_element(count: usize) -> i32 {
-    let ten = count == 6;
-    if ends_in_ten(count) != ten {
+    if is_ten(4) {
         return names::say_usage(Command::MxfWrite);
     }
-    mxf_write::run(ten)
+    if count == 5 {
+        return mxf_write::run(false);
+    }
+    if is_ten(5) {
+        return mxf_write::run(true);
+    }
+    names::say_usage(Command::MxfWrite)
 }
 
 fn read_element(count: usize) -> i32 {
-    let ten = count == 7;
-    if ends_in_ten(count) != ten {
+    if is_ten(5) {
         return names::say_usage(Command::MxfRead);
     }
-    mxf_read::run(ten)
+    if count == 6 {
+        return mxf_read::run(false);
+    }
+    if is_ten(6) {
+        return mxf_read::run(true);
+    }
+    names::say_usage(Command::MxfRead)
 }
 
 fn run(c: Command, name: &[u8], count: usize) -> i32 {
