@@ -156,8 +156,9 @@ gives() {
   sees became "$1" "$2"
 }
 
-# The commands that write, each with one job to do.
-writers=(lay read mxf-write mxf-read)
+# The commands that write, each with one job to do: the last two with --ten, where packets are damaged.
+commands=(lay read mxf-write mxf-read)
+writers=("${commands[@]}" mxf-write-ten mxf-read-ten)
 
 # job WRITER OUTPUT [INPUT]: the arguments are in `job`, what it reads in `input`, what OUTPUT has to become in `right`, what it prints in `line`,
 # what the usage calls input and output in `called`. Before it OUTPUT is a copy of frame.area, or, but for laying, no file.
@@ -168,11 +169,20 @@ job() {
   read) input=${3-laid_1.area} right=$samples/cue.sheet line="read packing 1 packets 3 numbers 40" called=(AREA SHEET) job=(read 1 "$input" "$2") ;;
   mxf-write) input=${3-film.sheet} right=$made/film.anc line="written packets 2 bytes 59" called=(SHEET ELEMENT) job=(mxf-write 0 "$input" "$2") ;;
   mxf-read) input=${3-film.anc} right=$made/film_0.sheet line="read packets 2 numbers 25" called=(ELEMENT SHEET) job=(mxf-read 3 0 "$input" "$2") ;;
+  mxf-write-ten)
+    job mxf-write "$2" "${3-found.sheet}"
+    right=$made/found.anc line="written packets 2 bytes 66" job+=(--ten)
+    ;;
+  mxf-read-ten)
+    job mxf-read "$2" "${3-found.anc}"
+    right=$made/found_0.sheet job+=(--ten)
+    ;;
   esac
 }
 
 # fresh_jobs: what the jobs read, and a file for them to replace.
-fresh_jobs() { fresh "$samples/"{cue.sheet,film.sheet,frame.area} "$made/laid_1.area" "$made/film.anc"; }
+inputs=(cue.sheet laid_1.area film.sheet film.anc found.sheet found.anc)
+fresh_jobs() { fresh "$samples/"{cue.sheet,film.sheet,frame.area} "$made/"{laid_1.area,film.anc,found.sheet,found.anc}; }
 
 # works WRITER OUTPUT [FILE [INPUT]]: the job is done, to FILE where that is another name of OUTPUT.
 works() {
@@ -241,8 +251,8 @@ declare -A usage=(
   [list]="vanc list [SHEET]"
   [lay]="vanc lay PACKING SHEET AREA"
   [read]="vanc read SYSTEM AREA SHEET"
-  [mxf-write]="vanc mxf-write FI SHEET ELEMENT"
-  [mxf-read]="vanc mxf-read SYSTEM FI ELEMENT SHEET"
+  [mxf-write]="vanc mxf-write FI SHEET ELEMENT [--ten]"
+  [mxf-read]="vanc mxf-read SYSTEM FI ELEMENT SHEET [--ten]"
 )
 
 # ---- help
@@ -268,7 +278,7 @@ prints --help
 overview=$printed
 expect 0 "$overview" "" help
 front='' wrong "$overview"
-for name in list "${writers[@]}"; do
+for name in list "${commands[@]}"; do
   [[ $overview == *"vanc $name"* ]] || fail "nothing of $name in '$overview'"
   prints help $name
   [[ $printed == *"${usage[$name]}"* ]] || fail "no '${usage[$name]}' in '$printed'"
@@ -414,7 +424,7 @@ for two in 2 02 1080/50i; do
   refused 4 0 laid_1.area read $two laid_1.area back.sheet
 done
 
-for name in "${writers[@]}"; do
+for name in "${commands[@]}"; do
   words=(1 0 film.anc frame.area more more)
   job $name frame.area
   for count in 0 1 2 3 4 5 6; do
@@ -479,7 +489,7 @@ done
 
 # A name has 4,096 bytes at most, of which the system takes 4,095, and a part of it 255. The output's folder has 4,083 at most, with its slash.
 printf -v part '%0255d' 1
-for file in cue.sheet laid_1.area film.sheet film.anc; do
+for file in "${inputs[@]}"; do
   cp $file "${part:${#file}}$file"
 done
 for file in "$part" twelve.areas eleven.area tens.areas; do
@@ -585,7 +595,7 @@ done
 # ---- the same file for input and output
 
 fresh_jobs
-for file in cue.sheet laid_1.area film.sheet film.anc; do
+for file in "${inputs[@]}"; do
   ln $file "hard_$file"
   ln -s $file "soft_$file"
   ln -s "../soft_$file" "folder/soft_$file"
@@ -702,7 +712,7 @@ fresh_jobs
 ln -s folder/new.file link
 keep
 mask=$(umask)
-for writer in read mxf-write mxf-read; do
+for writer in "${writers[@]:1}"; do
   for words in "022 644" "002 664" "027 640" "077 600" "000 666" "777 0" "137 640"; do
     for name in new.file link frame.area; do
       job $writer $name
@@ -743,7 +753,7 @@ fi
 
 fresh_jobs
 mkdir closed shut
-for file in cue.sheet film.sheet frame.area laid_1.area film.anc; do
+for file in "${inputs[@]}" frame.area; do
   cp $file "no_$file"
   cp $file closed
   cp $file shut
@@ -1305,7 +1315,7 @@ for start in closed_error full_error broken_error closed_input_error; do
     done
     stops "" $writer frame.area nothing.file
     stops "" $writer folder
-    wrong "" $writer x
+    wrong "" "${job[0]}" x
   done
   wrong ""
   wrong "" x
