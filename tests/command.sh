@@ -285,9 +285,19 @@ for name in list "${commands[@]}"; do
   [ "$printed" != "$overview" ] || fail "it is the overview"
   expect 0 "$printed" "" $name --help
   expect 0 "$printed" "" $name --help <folder
+  [[ $name != mxf-* || $printed == *$'\n'"--ten: "* ]] || fail "nothing of --ten in '$printed'"
+done
+[[ $overview == *$'\n'"With --ten "*mxf-write*mxf-read* ]] || fail "nothing of --ten in '$overview'"
+
+# The manual page has the same usage lines.
+synopsis=$(sed -n '/^\.Sh SYNOPSIS/,/^\.Sh DESCRIPTION/p' "$top/man/vanc.1" | sed -E '
+  s/^\.Op (.*)/[\1]/; s/^\.//; s/Fl -/--/; s/Cm //; s/Ar (.*)/\U\1/; s/^Nm$/\nvanc/' | paste -sd ' ')
+for name in list "${commands[@]}"; do
+  this="man/vanc.1"
+  [[ $synopsis == *"  ${usage[$name]}  "* ]] || fail "no '${usage[$name]}' in '$synopsis'"
 done
 expect 0 "$version" "" --version
-for name in "" x LAY la lay2 " lay" "lay " layer lister reader mxf_write mxf-Read -h -help --hel --helpx --Version -- - / "'" '%s%n%d' "ä b" \
+for name in "" x LAY la lay2 " lay" "lay " layer lister reader mxf_write mxf-Read -h -help --hel --helpx --Version --ten -- - / "'" '%s%n%d' "ä b" \
   "$(printf '%065d' 1)" "$(printf '%04096d' 1)" "$(printf '%04097d' 1)" "$(printf '%05000d' 1)"; do
   quote "$name"
   wrong "$quoted $unknown" "$name"
@@ -393,13 +403,16 @@ for none in "" x 1x x1 -1 +1 -0 " 1" "1 " $'1\t' 1/ 1: / : 0x1 0X1 1h 1.0 1,0 1e
   quote "$none"
   wrong "PACKING: $quoted is no number" lay "$none" cue.sheet frame.area
   wrong "SYSTEM: $quoted $neither" read "$none" laid_1.area back.sheet
-  wrong "SYSTEM: $quoted $neither" mxf-read "$none" 0 film.anc back.sheet
-  wrong "FI: $quoted is neither 0 nor 1" mxf-write "$none" film.sheet new.anc
-  wrong "FI: $quoted is neither 0 nor 1" mxf-read 3 "$none" film.anc back.sheet
+  for ten in "" --ten; do
+    wrong "SYSTEM: $quoted $neither" mxf-read "$none" 0 film.anc back.sheet $ten
+    wrong "FI: $quoted is neither 0 nor 1" mxf-write "$none" film.sheet new.anc $ten
+    wrong "FI: $quoted is neither 0 nor 1" mxf-read 3 "$none" film.anc back.sheet $ten
+  done
 done
 for system in 1080/60i 1080/50i 720/60p; do
   wrong "PACKING: '$system' is no number" lay $system cue.sheet frame.area
   wrong "FI: '$system' is neither 0 nor 1" mxf-write $system film.sheet new.anc
+  wrong "FI: '$system' is neither 0 nor 1" mxf-write $system film.sheet new.anc --ten
 done
 for number in 0 00 3 256 257 1080 65537 4294967297 $nines; do
   refused 1 0 PACKING lay $number cue.sheet frame.area
@@ -407,18 +420,23 @@ done
 for number in 0 4 256 257 1080 65537 4294967297 $nines; do
   refused 3 0 SYSTEM read $number laid_1.area back.sheet
   refused 3 0 SYSTEM mxf-read $number 0 film.anc back.sheet
+  refused 3 0 SYSTEM mxf-read $number 0 found.anc back.sheet --ten
 done
 for number in 2 3 10 11 256 257 65536 65537 4294967296 $nines; do
-  wrong "FI: '$number' is neither 0 nor 1" mxf-write $number film.sheet new.anc
-  wrong "FI: '$number' is neither 0 nor 1" mxf-read 3 $number film.anc back.sheet
+  for ten in "" --ten; do
+    wrong "FI: '$number' is neither 0 nor 1" mxf-write $number film.sheet new.anc $ten
+    wrong "FI: '$number' is neither 0 nor 1" mxf-read 3 $number film.anc back.sheet $ten
+  done
 done
 for one in 1 01 "$(printf '%018d' 1)" "$(printf '%04096d' 1)"; do
   gives frame.area laid_1.area "laid packs 10 bytes 30" lay $one cue.sheet frame.area
   gives cue.sheet "$samples/cue.sheet" "read packing 1 packets 3 numbers 40" read $one laid_1.area cue.sheet
   refused 18 3 "film.sheet: packet 3 (no line)" mxf-write $one film.sheet new.anc
+  refused 18 3 "found.sheet: packet 3 (no line)" mxf-write $one found.sheet new.anc --ten
 done
 for zero in 0 00 "$(printf '%018d' 0)"; do
   gives new.anc film.anc "written packets 2 bytes 59" mxf-write $zero film.sheet new.anc
+  gives new.anc found.anc "written packets 2 bytes 66" mxf-write $zero found.sheet new.anc --ten
 done
 for two in 2 02 1080/50i; do
   refused 4 0 laid_1.area read $two laid_1.area back.sheet
@@ -437,12 +455,58 @@ wrong "usage: ${usage[list]}" list cue.sheet ""
 wrong "usage: ${usage[list]}" list --help cue.sheet
 wrong "PACKING: '--help' is no number" lay --help cue.sheet frame.area
 
+# --ten stands behind the other arguments, once, and only where it is taken. Fewer of them are not made up by it: no file gets its name.
+for name in mxf-write mxf-read; do
+  job $name new.file
+  how="usage: ${usage[$name]}"
+  words=("${job[@]:1}")
+  count=${#words[@]}
+  for ((at = 0; at < count; at++)); do
+    wrong "$how" $name "${words[@]:0:at}" --ten
+    wrong "$how" $name "${words[@]:0:at}" --ten "${words[@]:at}"
+    wrong "$how" $name "${words[@]:0:at}" --ten "${words[@]:at}" --ten
+  done
+  wrong "$how" $name "${words[@]}" --ten --ten
+  for more in more "" --help -- --ten; do
+    wrong "$how" $name "${words[@]}" --ten "$more"
+    wrong "$how" $name "${words[@]}" "$more" --ten
+  done
+  for more in "" ten -ten --te --tens --TEN --Ten --ten= --ten=1 " --ten" "--ten " --ten/ ./--ten --10 --ten-bit --help -- - "$(printf '%04096d' 1)" \
+    "--ten$(printf '%05000d' 1)"; do
+    wrong "$how" $name "${words[@]}" "$more"
+  done
+  wrong "$how" $name --ten --help
+  wrong "$how" $name --help --ten
+  wrong "usage: vanc help [NAME]" help $name --ten
+done
+wrong "FI: '--ten' is neither 0 nor 1" mxf-write --ten film.sheet new.file
+wrong "SYSTEM: '--ten' $neither" mxf-read --ten 0 film.anc new.file
+wrong "FI: '--ten' is neither 0 nor 1" mxf-read 3 --ten film.anc new.file
+wrong "--ten: $absent" mxf-write 0 --ten new.file
+wrong "--ten: $absent" mxf-read 3 0 --ten new.file
+wrong "usage: ${usage[list]}" list cue.sheet --ten
+wrong "usage: ${usage[lay]}" lay 1 cue.sheet frame.area --ten
+wrong "usage: ${usage[read]}" read 1 laid_1.area new.file --ten
+wrong "usage: vanc --version" --version --ten
+wrong "usage: vanc --help" --help --ten
+for writer in mxf-write-ten mxf-read-ten; do
+  works $writer ./--ten --ten
+  job $writer x
+  cp "$input" ./--ten
+  keep
+  works $writer new.file "" ./--ten
+  rm ./--ten
+  keep
+done
+
 # Each wrong argument is said, in their order, and no file is looked at.
 wide 4097 x
 wrong "PACKING: 'x' is no number"$'\n'"SHEET: an empty name"$'\n'"AREA: $large" lay x "" "$wide"
 wrong "SYSTEM: '' $neither"$'\n'"AREA: $large"$'\n'"SHEET: an empty name" read "" "$wide" ""
 wrong "FI: '2' is neither 0 nor 1"$'\n'"SHEET: an empty name"$'\n'"ELEMENT: an empty name" mxf-write 2 "" ""
 wrong "SYSTEM: 'x' $neither"$'\n'"FI: 'y' is neither 0 nor 1"$'\n'"ELEMENT: an empty name"$'\n'"SHEET: $large" mxf-read x y "" "$wide"
+wrong "FI: '2' is neither 0 nor 1"$'\n'"SHEET: $large"$'\n'"ELEMENT: an empty name" mxf-write 2 "$wide" "" --ten
+wrong "SYSTEM: 'x' $neither"$'\n'"FI: 'y' is neither 0 nor 1"$'\n'"ELEMENT: an empty name"$'\n'"SHEET: $large" mxf-read x y "" "$wide" --ten
 wrong "PACKING: 'x' is no number"$'\n'"AREA: an empty name" lay x nothing.sheet ""
 wrong "AREA: an empty name" lay 3 cue.sheet ""
 wrong "SHEET: an empty name" read 4 nothing.area ""
@@ -450,6 +514,8 @@ start=timely
 wrong "PACKING: 'x' is no number" lay x silent frame.area
 wrong "SYSTEM: 'x' $neither" read x silent folder
 wrong "SYSTEM: 'x' $neither"$'\n'"FI: '2' is neither 0 nor 1" mxf-read x 2 silent folder
+wrong "FI: '2' is neither 0 nor 1" mxf-write 2 silent folder --ten
+wrong "SYSTEM: 'x' $neither"$'\n'"FI: '2' is neither 0 nor 1" mxf-read x 2 silent folder --ten
 start=vanc
 
 # ---- names
