@@ -3,8 +3,8 @@
 # error byte for byte, and every file afterwards: bytes, modes, owners, links, and that none is beside them.
 #
 # In order: help; there and back; arguments; names; outputs that are no files; the same file twice; links; modes and owners; files without permission;
-# sheets, areas and elements at their limits; a lighting desk's cues; refusals and their words; every line; the word at fault of a packet; elements of
-# other programs; streams; calls that fail; runs that are killed, and many at once; scripts.
+# sheets, areas and elements at their limits; a lighting desk's cues; refusals and their words; every line; the word at fault of a packet; packets as
+# found, in ten bits; elements of other programs; streams; calls that fail; runs that are killed, and many at once; scripts.
 set -euo pipefail
 export LC_ALL=C
 umask 022
@@ -210,9 +210,12 @@ wide() {
 
 # ---- what it says
 
-# The packet limit, and the bytes of the longest element that a sheet file gives: 22, and for each packet ten more than it has words.
+# The packet limit, and the bytes of the longest element that a sheet file gives: 22, and for each packet ten more than it has words. In ten bits that
+# is 22, 14 for each packet, four for three samples, and four more for each packet whose last four bytes have one sample: DID to CS of a DC that is a
+# multiple of three. The file's one number over goes to a packet's second one.
 most=$(sed -n 's/^LIMIT = //p' "$top/tests/reference.py")
 longest=$((22 + 32768 - 4 - 2 * most + 10 * most))
+longest_ten=$((22 + 14 * most + 4 * ((32768 - 4 - 9 * most) / 3 + 2 * most)))
 refusals=(
   ''
   'the packing is neither 1 (packs of five) nor 2 (long packs)'
@@ -236,6 +239,7 @@ refusals=(
   'the element is not of the form of SMPTE ST 436-1 from here on'
   'its line is a picture line, or kept free for switching (7, 8, 569, 570)'
 )
+over="a word over 3FFh has more than ten bits"
 even="a sheet file has an even number of bytes, 65536 at most"
 unknown="is no command; vanc --help lists them"
 neither="is neither a number nor 1080/60i, 1080/50i or 720/60p"
@@ -376,6 +380,29 @@ cp "$samples/frame.area" .
 expect 0 "laid packs 0 bytes 0" "" lay 2 none.sheet frame.area
 keep
 gives back.sheet none.sheet "read packing 0 packets 0 numbers 4" read 1 frame.area back.sheet
+
+# In ten bits: sound packets come back as in eight, damaged ones as they were.
+fresh "$samples/film.sheet" "$made/"{found.sheet,found.anc,found_film.anc}
+for name in film found; do
+  element=${name/film/found_film}.anc
+  gives new.anc $element "written packets 2 bytes 66" mxf-write 0 $name.sheet new.anc --ten
+  for system in 3 720/60p; do
+    gives back.sheet "$made/${name}_0.sheet" "read packets 2 numbers 25" mxf-read $system 0 $element back.sheet --ten
+  done
+  expect 0 "read packets 2 numbers 25" "" mxf-read 3 1 $element other.sheet --ten
+  expect 0 "written packets 0 bytes 22" "" mxf-write 0 other.sheet none.anc --ten
+  keep
+  gives $element $element "written packets 2 bytes 66" mxf-write 1 other.sheet $element --ten
+  for y in 1 2 3; do
+    expect 0 "read packets 0 numbers 4" "" mxf-read $y 1 none.anc none.sheet --ten
+    expect 0 "system $y packets 0 bytes 0 packs 0" "" list none.sheet
+  done
+  # An element without packets is of either coding.
+  keep
+  gives new.anc none.anc "written packets 0 bytes 22" mxf-write 1 none.sheet new.anc
+  gives new.anc none.anc "written packets 0 bytes 22" mxf-write 1 none.sheet new.anc --ten
+  gives back.sheet none.sheet "read packets 0 numbers 4" mxf-read 3 0 none.anc back.sheet
+done
 
 # The command by another name, without an environment, and from another folder.
 fresh_jobs
@@ -917,12 +944,14 @@ for y in 1 2 3; do
     second="$sheet: $even"
     refused 2 0 $sheet lay 1 $sheet noise_$y.area
     refused 2 0 $sheet mxf-write 0 $sheet full_$y.anc
+    refused 2 0 $sheet mxf-write 0 $sheet full_$y.anc --ten
     second=
     refused 1 0 PACKING lay 0 $sheet noise_$y.area
   done
   lists 0.sheet 1 "refused 2 at 0 0" "${refusals[2]}"
   refused 2 0 0.sheet lay 2 0.sheet noise_$y.area
   refused 2 0 0.sheet mxf-write 0 0.sheet full_$y.anc
+  refused 2 0 0.sheet mxf-write 0 0.sheet full_$y.anc --ten
 done
 
 # ---- areas at their limits
@@ -996,6 +1025,8 @@ for input in /dev/zero "$work/huge"; do
   second=
   refused 4 0 "$input" read 1 "$input" frame.area
   wrong "$input: longer than the 262144 bytes that are read" mxf-read 1 0 "$input" frame.area
+  wrong "$input: longer than the 262144 bytes that are read" mxf-read 1 0 "$input" frame.area --ten
+  second="$input: $even" refused 2 0 "$input" mxf-write 0 "$input" frame.area --ten
 done
 refused 4 0 "$work/huge" lay 1 cue.sheet "$work/huge"
 start=vanc
@@ -1063,6 +1094,12 @@ of_sheet() {
   wrong "nothing.area: $absent" lay 1 $sheet nothing.area
   for output in new.anc noise_1.area nowhere/new.anc; do
     refused $number $place "$what" mxf-write 0 $sheet $output
+    # As found it has no 8 or 10: then its packet 2 has no line, or it has no location.
+    case $number$3 in
+    8line | 10line) instead= at_word=0 refused 18 2 "$sheet: packet 2 (no line)" mxf-write 0 $sheet $output --ten ;;
+    8alone | 10alone) instead= at_word=0 refused 11 0 $sheet mxf-write 0 $sheet $output --ten ;;
+    *) refused $number $place "$what" mxf-write 0 $sheet $output --ten ;;
+    esac
   done
   rm $sheet
 }
@@ -1118,6 +1155,10 @@ for output in new.file frame.area nowhere/new.file; do
   refused 18 2 "cue.sheet: packet 2 (no line)" mxf-write 0 cue.sheet $output
   refused 19 0 "film.sheet: byte 0" mxf-read 3 0 film.sheet $output
   refused 3 0 SYSTEM mxf-read 4 0 film.sheet $output
+  refused 18 3 "found.sheet: packet 3 (no line)" mxf-write 1 found.sheet $output --ten
+  refused 18 2 "cue.sheet: packet 2 (no line)" mxf-write 0 cue.sheet $output --ten
+  refused 19 0 "found.sheet: byte 0" mxf-read 3 0 found.sheet $output --ten
+  refused 3 0 SYSTEM mxf-read 4 0 found.sheet $output --ten
   refused 3 0 SYSTEM read 4 film.sheet $output
 done
 for words in "13 0" "14 1" "15 1" "16 1"; do
@@ -1216,6 +1257,10 @@ at_fault=(
   "user_0 8 6 (user word 0) is 3FFh" "user_1 8 7 (user word 1) is 1000h" "user_17 8 23 (user word 17) is 3FFh"
   "user_254 8 260 (user word 254) is 000h" "user_over 8 7 (user word 1) is FFFFh"
   "cs 10 8 (CS) is 2D8h" "cs_of_none 10 6 (CS) is 046h" "cs_of_1 10 7 (CS) is 180h" "cs_of_255 10 261 (CS) is FFFFh"
+  "did_400 8 3 (DID) is 445h" "sdid_400 8 4 (SDID) is 401h" "dbn_400 8 4 (DBN) is 405h" "dc_400 8 5 (DC) is 402h"
+  "user_400 8 6 (user word 0) is 410h" "last_user_400 8 260 (user word 254) is 4FEh" "cs_400_of_none 10 6 (CS) is 400h" "cs_400 10 8 (CS) is 400h"
+  "cs_400_of_255 10 261 (CS) is 400h" "dc_002 8 5 (DC) is 002h" "dc_302 8 5 (DC) is 302h" "ones 8 3 (DID) is 3FFh" "zeros 8 3 (DID) is 000h"
+  "cs_ones 10 8 (CS) is 3FFh" "flag_inside 8 6 (user word 0) is 000h"
 )
 fresh "$made/"word_*.sheet "$made/noise_1.area"
 sheets=(word_*.sheet)
@@ -1232,6 +1277,185 @@ for words in "${at_fault[@]}"; do
   start=lister expect 0 "refused $number at 1 $at_word" "" <$sheet
 done
 at_word=0
+
+# ---- packets as found, in ten bits
+
+# Those of the same packets that have no other fault are written, come back byte for byte, and are listed as before. The others are refused at the
+# same word: over 3FFh, CS too, with 8 and words of its own.
+written=0
+for words in "${at_fault[@]}"; do
+  read -r name number at_word said <<<"$words"
+  sheet=word_${name}_line.sheet element=$made/word_${name}_line.anc where="packet 1 (line 9), word $at_word $said"
+  if [ -e "$element" ]; then
+    bytes=$(stat -c %s "$element") numbers=$(($(stat -c %s $sheet) / 2))
+    gives new.anc "$element" "written packets 2 bytes $bytes" mxf-write 0 $sheet new.anc --ten
+    # In 1080 FI comes back as 0.
+    cp $sheet right.sheet
+    poke right.sheet 9 '\000'
+    keep
+    gives back.sheet right.sheet "read packets 2 numbers $numbers" mxf-read 1 1 "$element" back.sheet --ten
+    refused $number 1 "right.sheet: $where" list right.sheet
+    at_word=0 refused 18 1 "${sheet/line/none}: packet 1 (no line)" mxf-write 0 ${sheet/line/none} new.anc --ten
+    at_word=0 refused 11 0 ${sheet/line/beyond} mxf-write 0 ${sheet/line/beyond} new.anc --ten
+    written=$((written + 1))
+  elif [ $name != cs_of_1 ]; then
+    [ $number != 10 ] || number=8
+    [ $number != 8 ] || instead=$over
+    refused $number 1 "$sheet: $where" mxf-write 1 $sheet new.anc --ten
+    refused $number 1 "${sheet/line/none}: ${where/line 9/no line}" mxf-write 0 ${sheet/line/none} new.anc --ten
+    refused $number 1 "${sheet/line/beyond}: ${where/ (line 9)/}" mxf-write 0 ${sheet/line/beyond} new.anc --ten
+    instead=
+  fi
+done
+[ $written = 17 ] || fail "$written of the packets are written as found"
+at_word=0
+refused 7 2 "word_cs_of_1_line.sheet: packet 2, word 0 (flag) is 1D8h" mxf-write 0 word_cs_of_1_line.sheet new.anc --ten
+
+# Two faults: the order of the tests (tests/command_files.py, faults_as_found).
+fresh "$made/"*_as_found.sheet "$made/noise_1.area"
+two_faults=(
+  "parity_then_over 8 1 7 packet 1 (line 9), word 7 (user word 1) is 400h" "cs_then_over 8 1 4 packet 1 (line 9), word 4 (SDID) is 400h"
+  "parity_then_flag 7 1 2 packet 1 (line 9), word 2 (flag) is 000h" "parity_then_cut 9 1 8 packet 1 (line 9), word 8 (user word 2) is missing"
+  "over_then_cut 9 1 8 packet 1 (line 9), word 8 (CS) is missing" "dc_over_then_cut 8 1 5 packet 1 (line 9), word 5 (DC) is 5FFh"
+  "over_then_few 7 1 5 packet 1 (line 9), word 5 (DC) is missing" "over_then_cs_over 8 1 7 packet 1 (line 9), word 7 (user word 1) is 400h"
+  "over_then_flag 8 0 7 packet 0 (line 561), word 7 (user word 1) is 400h" "dc_then_flag 7 1 0 packet 1 (line 9), word 0 (flag) is 1D8h"
+  "parity_then_11 11 0 0" "over_then_11 8 1 7 packet 1, word 7 (user word 1) is 400h"
+  "over_then_18 8 1 7 packet 1 (line 9), word 7 (user word 1) is 400h" "fewer_then_18 11 0 0"
+  "passed_over 8 3 6 packet 3 (no line), word 6 (CS) is 400h"
+)
+sheets=(*_as_found.sheet)
+[ ${#sheets[@]} = ${#two_faults[@]} ] || fail "${#sheets[@]} sheets with two faults, not ${#two_faults[@]}"
+for words in "${two_faults[@]}"; do
+  read -r name number place at_word where <<<"$words"
+  [ $number != 8 ] || instead=$over
+  for output in new.anc noise_1.area nowhere/new.anc; do
+    refused $number $place "${name}_as_found.sheet${where:+: $where}" mxf-write 0 ${name}_as_found.sheet $output --ten
+  done
+  instead=
+done
+at_word=0
+
+# Any ten bits, in each system and with each FI; what is not used, and padding, may have any bits too.
+for y in 1 2 3; do
+  fresh "$made/"{damaged_$y.sheet,{damaged,noisy}_${y}_{0,1}.anc}
+  for fi in 0 1; do
+    right=damaged_${y}_$fi
+    packets=70
+    [ $y != 3 ] || packets=35
+    numbers=$(($(stat -c %s "$made/$right.sheet") / 2))
+    gives new.anc $right.anc "written packets $packets bytes $(stat -c %s $right.anc)" mxf-write $fi damaged_$y.sheet new.anc --ten
+    for element in {damaged,noisy}_${y}_$fi.anc; do
+      gives back.sheet "$made/$right.sheet" "read packets $packets numbers $numbers" mxf-read $y $fi $element back.sheet --ten
+    done
+    cp "$made/$right.sheet" back.sheet
+    runs list back.sheet
+    [ "$status$out" = "1$(cat "$made/$right.text")"$'\n' ] || fail "status $status, '$out'"
+    rm back.sheet
+    # An element of one coding is none of the other: the coding of the first packet is at fault.
+    keep
+    refused 19 25 "$right.anc: byte 25" mxf-read $y $fi $right.anc back.sheet
+  done
+  cp "$made/full_$y.anc" .
+  keep
+  refused 19 25 "full_$y.anc: byte 25" mxf-read $y 0 full_$y.anc back.sheet --ten
+done
+
+# At their limits. A sheet that is sound comes back the same from either coding.
+for y in 1 2 3; do
+  fresh "$made/"{wide,wide_less,full}"_$y.sheet" "$made/"{wide{,_less,_over,_limit,_long,_long_over}_$y,wide_words,full_ten_$y}.anc
+  for name in wide wide_less; do
+    numbers=32768
+    [ $name = wide ] || numbers=32767
+    gives new.anc ${name}_$y.anc "written packets $most bytes $longest_ten" mxf-write 0 ${name}_$y.sheet new.anc --ten
+    gives back.sheet ${name}_$y.sheet "read packets $most numbers $numbers" mxf-read $y 0 ${name}_$y.anc back.sheet --ten
+  done
+  gives wide_less_$y.sheet wide_$y.sheet "read packets $most numbers 32768" mxf-read $y 0 wide_long_$y.anc wide_less_$y.sheet --ten
+  gives new.anc full_ten_$y.anc "written packets $most bytes $(stat -c %s full_ten_$y.anc)" mxf-write 0 full_$y.sheet new.anc --ten
+  gives back.sheet full_$y.sheet "read packets $most numbers 32768" mxf-read $y 0 full_ten_$y.anc back.sheet --ten
+  for sheet in back.sheet full_$y.sheet; do
+    for element in wide_over_$y.anc wide_words.anc; do
+      [ $y$element != 3wide_words.anc ] || continue
+      second="$sheet: $even" refused 17 0 $element mxf-read $y 0 $element $sheet --ten
+    done
+    refused 5 $most wide_limit_$y.anc mxf-read $y 0 wide_limit_$y.anc $sheet --ten
+    wrong "wide_long_over_$y.anc: longer than the 262144 bytes that are read" mxf-read $y 0 wide_long_over_$y.anc $sheet --ten
+    refused 19 0 "/dev/null: byte 0" mxf-read $y 0 /dev/null $sheet --ten
+  done
+  # 5 comes before 17, 20 before 5, and 19 before 20: the packet over the limit, whose structure is the last of 62 bytes each.
+  cp wide_limit_$y.anc bad.anc
+  poke bad.anc $((22 + 62 * most)) '\001\054'
+  keep
+  instead="line 300 is a picture line" refused 20 $most "bad.anc: packet $most" mxf-read $y 0 bad.anc new.file --ten
+  poke bad.anc $((24 + 62 * most)) '\002'
+  keep
+  refused 19 $((24 + 62 * most)) "bad.anc: byte $((24 + 62 * most))" mxf-read $y 0 bad.anc new.file --ten
+done
+
+# 19 at every field of an element: the byte that is changed, how, and the byte that is named. The packets' structures begin at bytes 22 and 44.
+fresh_jobs
+for words in '0 \007 0' '7 \000 7' '15 \377 15' '16 \202 16' '16 \004 16' '17 \001 17' '18 \001 17' '19 \055 17' '19 \057 17' \
+  '20 \001 66' '21 \003 66' '21 \001 44' '21 \000 22' '22 \377 22' '23 \000 22' '22 \003 22' '24 \000 24' '24 \001 24' '24 \005 24' \
+  '25 \000 25' '25 \004 25' '25 \005 25' '25 \006 25' '25 \011 25' '25 \012 25' '25 \207 25' '26 \001 26' '27 \000 26' '27 \003 26' \
+  '26 \001\004 26' '26 \001\003 28' '27 \007 28' '31 \036 66' \
+  '28 \001 28' '28 \377\377\377\377 28' '30 \001 28' '31 \000 28' '31 \004 28' '31 \007 28' '31 \037 28' '32 \001 32' '34 \001 32' '35 \000 32' \
+  '35 \002 32' '27 \005 38' '27 \004 38' '38 \026 38' '38 \025 38' '39 \000 38' '39 \014 38' '39 \377 38' \
+  '45 \000 44' '46 \001 46' '47 \004 47' '47 \011 47' '49 \003 48' '49 \006 60' '53 \007 50' '53 \011 50' '57 \000 54' '61 \000 60'; do
+  read -r at byte place <<<"$words"
+  cp found.anc bad.anc
+  poke bad.anc $at "$byte"
+  keep
+  refused 19 $place "bad.anc: byte $place" mxf-read 3 0 bad.anc new.file --ten
+done
+for output in frame.area nowhere/new.file; do
+  refused 19 60 "bad.anc: byte 60" mxf-read 3 0 bad.anc $output --ten
+done
+# Cut, with a length that says so: what is missing is at the end, but for arrays, which are their counts' fault.
+for size in {0..65}; do
+  head -c $size found.anc >bad.anc
+  [ $size -lt 20 ] || poke bad.anc 19 "$(printf '\\%03o' $((size - 20)))"
+  keep
+  place=$size
+  [ $size -lt 32 ] || [ $size -ge 44 ] || place=28
+  [ $size -lt 54 ] || place=50
+  refused 19 $place "bad.anc: byte $place" mxf-read 3 0 bad.anc new.file --ten
+done
+# Bytes behind it, of which the length says nothing, or all.
+cp found.anc bad.anc
+length bad.anc 68
+keep
+refused 19 17 "bad.anc: byte 17" mxf-read 3 0 bad.anc new.file --ten
+poke bad.anc 19 '\060'
+keep
+refused 19 66 "bad.anc: byte 66" mxf-read 3 0 bad.anc new.file --ten
+# Not at fault: what is not used, the upper bits of DC, any other sample.
+for words in '39 \013' '43 \143' '61 \007' '65 \377' '38 \034' '38 \000' '36 \377\377' '40 \000\000\000\000' '40 \377\377\377\377'; do
+  cp found.anc other.anc
+  poke other.anc ${words% *} "${words#* }"
+  expect 0 "read packets 2 numbers 25" "" mxf-read 3 0 other.anc new.file --ten
+  case $words in
+  '39 '* | '43 '* | '61 '* | '65 '*) cmp -s new.file "$made/found_0.sheet" || fail "what is not used has changed the sheet" ;;
+  *) ! cmp -s new.file "$made/found_0.sheet" || fail "the sheet is as it was" ;;
+  esac
+done
+# Lines 7 and 26 in place of 9 and 13.
+for words in '0 23 \007 7 is kept free for switching' '1 45 \032 26 is a picture line'; do
+  read -r packet byte line instead <<<"$words"
+  instead="line $instead"
+  cp found.anc bad.anc
+  poke bad.anc $byte "$line"
+  keep
+  for output in new.file frame.area nowhere/new.file; do
+    for fi in 0 1; do
+      refused 20 $packet "bad.anc: packet $packet" mxf-read 3 $fi bad.anc $output --ten
+    done
+  done
+  instead=
+  refused 3 0 SYSTEM mxf-read 4 0 bad.anc new.file --ten
+  refused 19 25 "bad.anc: byte 25" mxf-read 3 0 bad.anc new.file
+  poke bad.anc $((44 - 22 * packet)) '\377'
+  keep
+  refused 19 $((44 - 22 * packet)) "bad.anc: byte $((44 - 22 * packet))" mxf-read 3 0 bad.anc new.file --ten
+done
 
 # ---- elements of other programs (docs/OUTSIDE-ELEMENTS.md): the byte at which each is refused, then mended
 
@@ -1263,11 +1487,12 @@ done
 fresh_jobs
 cp frame.area folder/target
 ln -s folder/target link
-cp "$made/10_line.sheet" "$made/14_1.area" "$made/full_1.sheet" .
+cp "$made/10_line.sheet" "$made/14_1.area" "$made/full_1.sheet" "$made/over_then_11_as_found.sheet" .
 mkfifo silent
 keep
 # What is said of 10_line.sheet, before the words of 10.
 wrong_cs="packet 0 (line 9), word 8 (CS) is 1D9h"
+has_over="over_then_11_as_found.sheet: packet 1, word 7 (user word 1) is 400h: $over"
 
 # each_output WRITER: the outputs are in `outputs`: a file to replace, one through a link, and a new one.
 each_output() {
@@ -1319,6 +1544,8 @@ for stream in full broken limited readable; do
   wrong "10_line.sheet: $wrong_cs: ${refusals[10]}"$'\n'"$why"$'\n'"$unchanged" lay 1 10_line.sheet frame.area
   wrong "14_1.area: packet 1: ${refusals[14]}"$'\n'"$why"$'\n'"$unchanged" read 1 14_1.area frame.area
   wrong "SYSTEM: ${refusals[3]}"$'\n'"$why"$'\n'"$unchanged" mxf-read 4 0 film.anc new.file
+  wrong "$has_over"$'\n'"$why"$'\n'"$unchanged" mxf-write 0 over_then_11_as_found.sheet frame.area --ten
+  wrong "film.anc: byte 25: ${refusals[19]}"$'\n'"$why"$'\n'"$unchanged" mxf-read 3 0 film.anc new.file --ten
   # What prints nothing has no use for it. With a limit standard error has one too.
   [ $stream = limited ] || front='' wrong "$overview"
   wrong "PACKING: 'x' is no number" lay x cue.sheet frame.area
@@ -1338,7 +1565,8 @@ for start in closed_output closed_input_output closed_output_error closed_all; d
   [[ $start == *error || $start == *all ]] || why="standard output: Bad file descriptor"$'\n'"$unchanged"
   for words in '' x lay lay\ {x\ y\ z,3\ cue.sheet\ frame.area,1\ {silent\ frame.area,cue.sheet\ frame.area,cue.sheet\ folder,nothing\ nothing}} \
     list{,\ silent,\ cue.sheet,\ nothing,\ 10_line.sheet} read\ 1\ {silent,laid_1.area}\ {frame.area,new.file,link,nowhere/x} \
-    mxf-write\ 0\ film.sheet\ new.file mxf-read\ 3\ 0\ {film.anc,silent}\ new.file help{,\ lay,\ x,\ refusals,\ lay\ read} \
+    mxf-write\ 0\ film.sheet\ {new.file,--ten,new.file\ --ten} mxf-read\ 3\ 0\ {film.anc,silent}\ new.file{,\ --ten} \
+    help{,\ lay,\ x,\ refusals,\ lay\ read} \
     --help lay\ --help --version; do
     wrong "$why" $words
   done
@@ -1387,6 +1615,8 @@ for start in closed_error full_error broken_error closed_input_error; do
   wrong "" x
   expect 1 "refused 10 at 0 8" "" lay 1 10_line.sheet frame.area
   expect 1 "refused 14 at 1" "" read 1 14_1.area new.file
+  expect 1 "refused 8 at 1 7" "" mxf-write 0 over_then_11_as_found.sheet new.file --ten
+  expect 1 "refused 19 at 25" "" mxf-read 3 0 film.anc new.file --ten
   expect 1 "refused 10 at 0 8" "" list 10_line.sheet
   expect 0 "$listing" "" list cue.sheet
   expect 0 "$overview" "" help
@@ -1395,15 +1625,16 @@ done
 start=vanc
 
 # A full disk: no file may have more than 1,024 bytes. The signal that would end the command is of no effect.
-fresh "$samples/cue.sheet" "$samples/frame.area" "$made/"{fill_2_2.area,full_1.sheet,full_1.anc}
+fresh "$samples/cue.sheet" "$samples/frame.area" "$made/"{fill_2_2.area,full_1.sheet,full_1.anc,wide_1.sheet,wide_1.anc}
 ln -s folder/new.file link
 keep
 full_disk() (ulimit -f 1 && vanc "$@")
 start=full_disk
-for words in lay\ 1\ cue.sheet read\ 2\ fill_2_2.area mxf-write\ 0\ full_1.sheet mxf-read\ 1\ 0\ full_1.anc; do
+for words in lay\ 1\ cue.sheet\ TO read\ 2\ fill_2_2.area\ TO mxf-write\ 0\ {full_1.sheet\ TO,wide_1.sheet\ TO\ --ten} \
+  mxf-read\ 1\ 0\ {full_1.anc\ TO,wide_1.anc\ TO\ --ten}; do
   for name in frame.area new.file link; do
     [[ $words != lay* || $name = frame.area ]] || continue
-    expect 2 "" "$name: not written: File too large" $words $name
+    expect 2 "" "$name: not written: File too large" ${words/TO/$name}
     sees same
   done
 done
@@ -1561,11 +1792,13 @@ start=lister front='' expect 0 "" "standard input: Is a directory" <folder
 sees untouched
 
 # The largest files, one byte at a time.
-fresh "$made/full_1.sheet" "$made/full_1.anc" "$made/fill_2_2.area" "$made/fill_2_2.sheet"
+fresh "$made/full_1.sheet" "$made/full_1.anc" "$made/fill_2_2.area" "$made/fill_2_2.sheet" "$made/wide_1.sheet" "$made/wide_1.anc"
 fault=short
 lists full_1.sheet 0 "$(cat "$made/full_1.text")"
 gives new.file full_1.anc "written packets $most bytes $longest" mxf-write 0 full_1.sheet new.file
 gives new.file full_1.sheet "read packets $most numbers 32768" mxf-read 1 0 full_1.anc new.file
+gives new.file wide_1.anc "written packets $most bytes $longest_ten" mxf-write 0 wide_1.sheet new.file --ten
+gives new.file wide_1.sheet "read packets $most numbers 32768" mxf-read 1 0 wide_1.anc new.file --ten
 gives new.file fill_2_2.sheet "$(cat "$made/fill_2_2.read")" read 2 fill_2_2.area new.file
 fault=
 
