@@ -494,6 +494,7 @@ for name in mxf-write mxf-read; do
     wrong "$how" $name "${words[@]:0:at}" --ten "${words[@]:at}" --ten
   done
   wrong "$how" $name "${words[@]}" --ten --ten
+  wrong "$how" $name "${words[@]:0:count - 1}" --ten --ten
   for more in more "" --help -- --ten; do
     wrong "$how" $name "${words[@]}" --ten "$more"
     wrong "$how" $name "${words[@]}" "$more" --ten
