@@ -3,8 +3,8 @@
 # error byte for byte, and every file afterwards: bytes, modes, owners, links, and that none is beside them.
 #
 # In order: help; there and back; arguments; names; outputs that are no files; the same file twice; links; modes and owners; files without permission;
-# sheets, areas and elements at their limits; a lighting desk's cues; refusals and their words; every line; the word at fault of a packet; elements of
-# other programs; streams; calls that fail; runs that are killed, and many at once; scripts.
+# sheets, areas and elements at their limits; a lighting desk's cues; refusals and their words; every line; the word at fault of a packet; packets as
+# found, in ten bits; elements of other programs; streams; calls that fail; runs that are killed, and many at once; scripts.
 set -euo pipefail
 export LC_ALL=C
 umask 022
@@ -156,8 +156,9 @@ gives() {
   sees became "$1" "$2"
 }
 
-# The commands that write, each with one job to do.
-writers=(lay read mxf-write mxf-read)
+# The commands that write, each with one job to do: the last two with --ten, where packets are damaged.
+commands=(lay read mxf-write mxf-read)
+writers=("${commands[@]}" mxf-write-ten mxf-read-ten)
 
 # job WRITER OUTPUT [INPUT]: the arguments are in `job`, what it reads in `input`, what OUTPUT has to become in `right`, what it prints in `line`,
 # what the usage calls input and output in `called`. Before it OUTPUT is a copy of frame.area, or, but for laying, no file.
@@ -168,11 +169,20 @@ job() {
   read) input=${3-laid_1.area} right=$samples/cue.sheet line="read packing 1 packets 3 numbers 40" called=(AREA SHEET) job=(read 1 "$input" "$2") ;;
   mxf-write) input=${3-film.sheet} right=$made/film.anc line="written packets 2 bytes 59" called=(SHEET ELEMENT) job=(mxf-write 0 "$input" "$2") ;;
   mxf-read) input=${3-film.anc} right=$made/film_0.sheet line="read packets 2 numbers 25" called=(ELEMENT SHEET) job=(mxf-read 3 0 "$input" "$2") ;;
+  mxf-write-ten)
+    job mxf-write "$2" "${3-found.sheet}"
+    right=$made/found.anc line="written packets 2 bytes 66" job+=(--ten)
+    ;;
+  mxf-read-ten)
+    job mxf-read "$2" "${3-found.anc}"
+    right=$made/found_0.sheet job+=(--ten)
+    ;;
   esac
 }
 
 # fresh_jobs: what the jobs read, and a file for them to replace.
-fresh_jobs() { fresh "$samples/"{cue.sheet,film.sheet,frame.area} "$made/laid_1.area" "$made/film.anc"; }
+inputs=(cue.sheet laid_1.area film.sheet film.anc found.sheet found.anc)
+fresh_jobs() { fresh "$samples/"{cue.sheet,film.sheet,frame.area} "$made/"{laid_1.area,film.anc,found.sheet,found.anc}; }
 
 # works WRITER OUTPUT [FILE [INPUT]]: the job is done, to FILE where that is another name of OUTPUT.
 works() {
@@ -200,9 +210,12 @@ wide() {
 
 # ---- what it says
 
-# The packet limit, and the bytes of the longest element that a sheet file gives: 22, and for each packet ten more than it has words.
+# The packet limit, and the bytes of the longest element that a sheet file gives: 22, and for each packet ten more than it has words. In ten bits that
+# is 22, 14 for each packet, four for three samples, and four more for each packet whose last four bytes have one sample: DID to CS of a DC that is a
+# multiple of three. The file's one number over goes to a packet's second one.
 most=$(sed -n 's/^LIMIT = //p' "$top/tests/reference.py")
 longest=$((22 + 32768 - 4 - 2 * most + 10 * most))
+longest_ten=$((22 + 14 * most + 4 * ((32768 - 4 - 9 * most) / 3 + 2 * most)))
 refusals=(
   ''
   'the packing is neither 1 (packs of five) nor 2 (long packs)'
@@ -226,6 +239,7 @@ refusals=(
   'the element is not of the form of SMPTE ST 436-1 from here on'
   'its line is a picture line, or kept free for switching (7, 8, 569, 570)'
 )
+over="a word over 3FFh has more than ten bits"
 even="a sheet file has an even number of bytes, 65536 at most"
 unknown="is no command; vanc --help lists them"
 neither="is neither a number nor 1080/60i, 1080/50i or 720/60p"
@@ -241,8 +255,8 @@ declare -A usage=(
   [list]="vanc list [SHEET]"
   [lay]="vanc lay PACKING SHEET AREA"
   [read]="vanc read SYSTEM AREA SHEET"
-  [mxf-write]="vanc mxf-write FI SHEET ELEMENT"
-  [mxf-read]="vanc mxf-read SYSTEM FI ELEMENT SHEET"
+  [mxf-write]="vanc mxf-write FI SHEET ELEMENT [--ten]"
+  [mxf-read]="vanc mxf-read SYSTEM FI ELEMENT SHEET [--ten]"
 )
 
 # ---- help
@@ -268,16 +282,26 @@ prints --help
 overview=$printed
 expect 0 "$overview" "" help
 front='' wrong "$overview"
-for name in list "${writers[@]}"; do
+for name in list "${commands[@]}"; do
   [[ $overview == *"vanc $name"* ]] || fail "nothing of $name in '$overview'"
   prints help $name
   [[ $printed == *"${usage[$name]}"* ]] || fail "no '${usage[$name]}' in '$printed'"
   [ "$printed" != "$overview" ] || fail "it is the overview"
   expect 0 "$printed" "" $name --help
   expect 0 "$printed" "" $name --help <folder
+  [[ $name != mxf-* || $printed == *$'\n'"--ten: "* ]] || fail "nothing of --ten in '$printed'"
+done
+[[ $overview == *$'\n'"With --ten "*mxf-write*mxf-read* ]] || fail "nothing of --ten in '$overview'"
+
+# The manual page has the same usage lines.
+synopsis=$(sed -n '/^\.Sh SYNOPSIS/,/^\.Sh DESCRIPTION/p' "$top/man/vanc.1" | sed -E '
+  s/^\.Op (.*)/[\1]/; s/^\.//; s/Fl -/--/; s/Cm //; s/Ar (.*)/\U\1/; s/^Nm$/\nvanc/' | paste -sd ' ')
+for name in list "${commands[@]}"; do
+  this="man/vanc.1"
+  [[ $synopsis == *"  ${usage[$name]}  "* ]] || fail "no '${usage[$name]}' in '$synopsis'"
 done
 expect 0 "$version" "" --version
-for name in "" x LAY la lay2 " lay" "lay " layer lister reader mxf_write mxf-Read -h -help --hel --helpx --Version -- - / "'" '%s%n%d' "ä b" \
+for name in "" x LAY la lay2 " lay" "lay " layer lister reader mxf_write mxf-Read -h -help --hel --helpx --Version --ten -- - / "'" '%s%n%d' "ä b" \
   "$(printf '%065d' 1)" "$(printf '%04096d' 1)" "$(printf '%04097d' 1)" "$(printf '%05000d' 1)"; do
   quote "$name"
   wrong "$quoted $unknown" "$name"
@@ -357,6 +381,29 @@ expect 0 "laid packs 0 bytes 0" "" lay 2 none.sheet frame.area
 keep
 gives back.sheet none.sheet "read packing 0 packets 0 numbers 4" read 1 frame.area back.sheet
 
+# In ten bits: sound packets come back as in eight, damaged ones as they were.
+fresh "$samples/film.sheet" "$made/"{found.sheet,found.anc,found_film.anc}
+for name in film found; do
+  element=${name/film/found_film}.anc
+  gives new.anc $element "written packets 2 bytes 66" mxf-write 0 $name.sheet new.anc --ten
+  for system in 3 720/60p; do
+    gives back.sheet "$made/${name}_0.sheet" "read packets 2 numbers 25" mxf-read $system 0 $element back.sheet --ten
+  done
+  expect 0 "read packets 2 numbers 25" "" mxf-read 3 1 $element other.sheet --ten
+  expect 0 "written packets 0 bytes 22" "" mxf-write 0 other.sheet none.anc --ten
+  keep
+  gives $element $element "written packets 2 bytes 66" mxf-write 1 other.sheet $element --ten
+  for y in 1 2 3; do
+    expect 0 "read packets 0 numbers 4" "" mxf-read $y 1 none.anc none.sheet --ten
+    expect 0 "system $y packets 0 bytes 0 packs 0" "" list none.sheet
+  done
+  # An element without packets is of either coding.
+  keep
+  gives new.anc none.anc "written packets 0 bytes 22" mxf-write 1 none.sheet new.anc
+  gives new.anc none.anc "written packets 0 bytes 22" mxf-write 1 none.sheet new.anc --ten
+  gives back.sheet none.sheet "read packets 0 numbers 4" mxf-read 3 0 none.anc back.sheet
+done
+
 # The command by another name, without an environment, and from another folder.
 fresh_jobs
 ln -s "$program" "$work/other name"
@@ -383,13 +430,16 @@ for none in "" x 1x x1 -1 +1 -0 " 1" "1 " $'1\t' 1/ 1: / : 0x1 0X1 1h 1.0 1,0 1e
   quote "$none"
   wrong "PACKING: $quoted is no number" lay "$none" cue.sheet frame.area
   wrong "SYSTEM: $quoted $neither" read "$none" laid_1.area back.sheet
-  wrong "SYSTEM: $quoted $neither" mxf-read "$none" 0 film.anc back.sheet
-  wrong "FI: $quoted is neither 0 nor 1" mxf-write "$none" film.sheet new.anc
-  wrong "FI: $quoted is neither 0 nor 1" mxf-read 3 "$none" film.anc back.sheet
+  for ten in "" --ten; do
+    wrong "SYSTEM: $quoted $neither" mxf-read "$none" 0 film.anc back.sheet $ten
+    wrong "FI: $quoted is neither 0 nor 1" mxf-write "$none" film.sheet new.anc $ten
+    wrong "FI: $quoted is neither 0 nor 1" mxf-read 3 "$none" film.anc back.sheet $ten
+  done
 done
 for system in 1080/60i 1080/50i 720/60p; do
   wrong "PACKING: '$system' is no number" lay $system cue.sheet frame.area
   wrong "FI: '$system' is neither 0 nor 1" mxf-write $system film.sheet new.anc
+  wrong "FI: '$system' is neither 0 nor 1" mxf-write $system film.sheet new.anc --ten
 done
 for number in 0 00 3 256 257 1080 65537 4294967297 $nines; do
   refused 1 0 PACKING lay $number cue.sheet frame.area
@@ -397,24 +447,29 @@ done
 for number in 0 4 256 257 1080 65537 4294967297 $nines; do
   refused 3 0 SYSTEM read $number laid_1.area back.sheet
   refused 3 0 SYSTEM mxf-read $number 0 film.anc back.sheet
+  refused 3 0 SYSTEM mxf-read $number 0 found.anc back.sheet --ten
 done
 for number in 2 3 10 11 256 257 65536 65537 4294967296 $nines; do
-  wrong "FI: '$number' is neither 0 nor 1" mxf-write $number film.sheet new.anc
-  wrong "FI: '$number' is neither 0 nor 1" mxf-read 3 $number film.anc back.sheet
+  for ten in "" --ten; do
+    wrong "FI: '$number' is neither 0 nor 1" mxf-write $number film.sheet new.anc $ten
+    wrong "FI: '$number' is neither 0 nor 1" mxf-read 3 $number film.anc back.sheet $ten
+  done
 done
 for one in 1 01 "$(printf '%018d' 1)" "$(printf '%04096d' 1)"; do
   gives frame.area laid_1.area "laid packs 10 bytes 30" lay $one cue.sheet frame.area
   gives cue.sheet "$samples/cue.sheet" "read packing 1 packets 3 numbers 40" read $one laid_1.area cue.sheet
   refused 18 3 "film.sheet: packet 3 (no line)" mxf-write $one film.sheet new.anc
+  refused 18 3 "found.sheet: packet 3 (no line)" mxf-write $one found.sheet new.anc --ten
 done
 for zero in 0 00 "$(printf '%018d' 0)"; do
   gives new.anc film.anc "written packets 2 bytes 59" mxf-write $zero film.sheet new.anc
+  gives new.anc found.anc "written packets 2 bytes 66" mxf-write $zero found.sheet new.anc --ten
 done
 for two in 2 02 1080/50i; do
   refused 4 0 laid_1.area read $two laid_1.area back.sheet
 done
 
-for name in "${writers[@]}"; do
+for name in "${commands[@]}"; do
   words=(1 0 film.anc frame.area more more)
   job $name frame.area
   for count in 0 1 2 3 4 5 6; do
@@ -427,12 +482,59 @@ wrong "usage: ${usage[list]}" list cue.sheet ""
 wrong "usage: ${usage[list]}" list --help cue.sheet
 wrong "PACKING: '--help' is no number" lay --help cue.sheet frame.area
 
+# --ten stands behind the other arguments, once, and only where it is taken. Fewer of them are not made up by it: no file gets its name.
+for name in mxf-write mxf-read; do
+  job $name new.file
+  how="usage: ${usage[$name]}"
+  words=("${job[@]:1}")
+  count=${#words[@]}
+  for ((at = 0; at < count; at++)); do
+    wrong "$how" $name "${words[@]:0:at}" --ten
+    wrong "$how" $name "${words[@]:0:at}" --ten "${words[@]:at}"
+    wrong "$how" $name "${words[@]:0:at}" --ten "${words[@]:at}" --ten
+  done
+  wrong "$how" $name "${words[@]}" --ten --ten
+  wrong "$how" $name "${words[@]:0:count - 1}" --ten --ten
+  for more in more "" --help -- --ten; do
+    wrong "$how" $name "${words[@]}" --ten "$more"
+    wrong "$how" $name "${words[@]}" "$more" --ten
+  done
+  for more in "" ten -ten --te --tens --TEN --Ten --ten= --ten=1 " --ten" "--ten " --ten/ ./--ten --10 --ten-bit --help -- - "$(printf '%04096d' 1)" \
+    "--ten$(printf '%05000d' 1)"; do
+    wrong "$how" $name "${words[@]}" "$more"
+  done
+  wrong "$how" $name --ten --help
+  wrong "$how" $name --help --ten
+  wrong "usage: vanc help [NAME]" help $name --ten
+done
+wrong "FI: '--ten' is neither 0 nor 1" mxf-write --ten film.sheet new.file
+wrong "SYSTEM: '--ten' $neither" mxf-read --ten 0 film.anc new.file
+wrong "FI: '--ten' is neither 0 nor 1" mxf-read 3 --ten film.anc new.file
+wrong "--ten: $absent" mxf-write 0 --ten new.file
+wrong "--ten: $absent" mxf-read 3 0 --ten new.file
+wrong "usage: ${usage[list]}" list cue.sheet --ten
+wrong "usage: ${usage[lay]}" lay 1 cue.sheet frame.area --ten
+wrong "usage: ${usage[read]}" read 1 laid_1.area new.file --ten
+wrong "usage: vanc --version" --version --ten
+wrong "usage: vanc --help" --help --ten
+for writer in mxf-write-ten mxf-read-ten; do
+  works $writer ./--ten --ten
+  job $writer x
+  cp "$input" ./--ten
+  keep
+  works $writer new.file "" ./--ten
+  rm ./--ten
+  keep
+done
+
 # Each wrong argument is said, in their order, and no file is looked at.
 wide 4097 x
 wrong "PACKING: 'x' is no number"$'\n'"SHEET: an empty name"$'\n'"AREA: $large" lay x "" "$wide"
 wrong "SYSTEM: '' $neither"$'\n'"AREA: $large"$'\n'"SHEET: an empty name" read "" "$wide" ""
 wrong "FI: '2' is neither 0 nor 1"$'\n'"SHEET: an empty name"$'\n'"ELEMENT: an empty name" mxf-write 2 "" ""
 wrong "SYSTEM: 'x' $neither"$'\n'"FI: 'y' is neither 0 nor 1"$'\n'"ELEMENT: an empty name"$'\n'"SHEET: $large" mxf-read x y "" "$wide"
+wrong "FI: '2' is neither 0 nor 1"$'\n'"SHEET: $large"$'\n'"ELEMENT: an empty name" mxf-write 2 "$wide" "" --ten
+wrong "SYSTEM: 'x' $neither"$'\n'"FI: 'y' is neither 0 nor 1"$'\n'"ELEMENT: an empty name"$'\n'"SHEET: $large" mxf-read x y "" "$wide" --ten
 wrong "PACKING: 'x' is no number"$'\n'"AREA: an empty name" lay x nothing.sheet ""
 wrong "AREA: an empty name" lay 3 cue.sheet ""
 wrong "SHEET: an empty name" read 4 nothing.area ""
@@ -440,6 +542,8 @@ start=timely
 wrong "PACKING: 'x' is no number" lay x silent frame.area
 wrong "SYSTEM: 'x' $neither" read x silent folder
 wrong "SYSTEM: 'x' $neither"$'\n'"FI: '2' is neither 0 nor 1" mxf-read x 2 silent folder
+wrong "FI: '2' is neither 0 nor 1" mxf-write 2 silent folder --ten
+wrong "SYSTEM: 'x' $neither"$'\n'"FI: '2' is neither 0 nor 1" mxf-read x 2 silent folder --ten
 start=vanc
 
 # ---- names
@@ -479,7 +583,7 @@ done
 
 # A name has 4,096 bytes at most, of which the system takes 4,095, and a part of it 255. The output's folder has 4,083 at most, with its slash.
 printf -v part '%0255d' 1
-for file in cue.sheet laid_1.area film.sheet film.anc; do
+for file in "${inputs[@]}"; do
   cp $file "${part:${#file}}$file"
 done
 for file in "$part" twelve.areas eleven.area tens.areas; do
@@ -585,7 +689,7 @@ done
 # ---- the same file for input and output
 
 fresh_jobs
-for file in cue.sheet laid_1.area film.sheet film.anc; do
+for file in "${inputs[@]}"; do
   ln $file "hard_$file"
   ln -s $file "soft_$file"
   ln -s "../soft_$file" "folder/soft_$file"
@@ -702,7 +806,7 @@ fresh_jobs
 ln -s folder/new.file link
 keep
 mask=$(umask)
-for writer in read mxf-write mxf-read; do
+for writer in "${writers[@]:1}"; do
   for words in "022 644" "002 664" "027 640" "077 600" "000 666" "777 0" "137 640"; do
     for name in new.file link frame.area; do
       job $writer $name
@@ -743,7 +847,7 @@ fi
 
 fresh_jobs
 mkdir closed shut
-for file in cue.sheet film.sheet frame.area laid_1.area film.anc; do
+for file in "${inputs[@]}" frame.area; do
   cp $file "no_$file"
   cp $file closed
   cp $file shut
@@ -841,12 +945,14 @@ for y in 1 2 3; do
     second="$sheet: $even"
     refused 2 0 $sheet lay 1 $sheet noise_$y.area
     refused 2 0 $sheet mxf-write 0 $sheet full_$y.anc
+    refused 2 0 $sheet mxf-write 0 $sheet full_$y.anc --ten
     second=
     refused 1 0 PACKING lay 0 $sheet noise_$y.area
   done
   lists 0.sheet 1 "refused 2 at 0 0" "${refusals[2]}"
   refused 2 0 0.sheet lay 2 0.sheet noise_$y.area
   refused 2 0 0.sheet mxf-write 0 0.sheet full_$y.anc
+  refused 2 0 0.sheet mxf-write 0 0.sheet full_$y.anc --ten
 done
 
 # ---- areas at their limits
@@ -920,6 +1026,8 @@ for input in /dev/zero "$work/huge"; do
   second=
   refused 4 0 "$input" read 1 "$input" frame.area
   wrong "$input: longer than the 262144 bytes that are read" mxf-read 1 0 "$input" frame.area
+  wrong "$input: longer than the 262144 bytes that are read" mxf-read 1 0 "$input" frame.area --ten
+  second="$input: $even" refused 2 0 "$input" mxf-write 0 "$input" frame.area --ten
 done
 refused 4 0 "$work/huge" lay 1 cue.sheet "$work/huge"
 start=vanc
@@ -987,6 +1095,12 @@ of_sheet() {
   wrong "nothing.area: $absent" lay 1 $sheet nothing.area
   for output in new.anc noise_1.area nowhere/new.anc; do
     refused $number $place "$what" mxf-write 0 $sheet $output
+    # As found it has no 8 or 10: then its packet 2 has no line, or it has no location.
+    case $number$3 in
+    8line | 10line) instead= at_word=0 refused 18 2 "$sheet: packet 2 (no line)" mxf-write 0 $sheet $output --ten ;;
+    8alone | 10alone) instead= at_word=0 refused 11 0 $sheet mxf-write 0 $sheet $output --ten ;;
+    *) refused $number $place "$what" mxf-write 0 $sheet $output --ten ;;
+    esac
   done
   rm $sheet
 }
@@ -1042,6 +1156,10 @@ for output in new.file frame.area nowhere/new.file; do
   refused 18 2 "cue.sheet: packet 2 (no line)" mxf-write 0 cue.sheet $output
   refused 19 0 "film.sheet: byte 0" mxf-read 3 0 film.sheet $output
   refused 3 0 SYSTEM mxf-read 4 0 film.sheet $output
+  refused 18 3 "found.sheet: packet 3 (no line)" mxf-write 1 found.sheet $output --ten
+  refused 18 2 "cue.sheet: packet 2 (no line)" mxf-write 0 cue.sheet $output --ten
+  refused 19 0 "found.sheet: byte 0" mxf-read 3 0 found.sheet $output --ten
+  refused 3 0 SYSTEM mxf-read 4 0 found.sheet $output --ten
   refused 3 0 SYSTEM read 4 film.sheet $output
 done
 for words in "13 0" "14 1" "15 1" "16 1"; do
@@ -1140,6 +1258,10 @@ at_fault=(
   "user_0 8 6 (user word 0) is 3FFh" "user_1 8 7 (user word 1) is 1000h" "user_17 8 23 (user word 17) is 3FFh"
   "user_254 8 260 (user word 254) is 000h" "user_over 8 7 (user word 1) is FFFFh"
   "cs 10 8 (CS) is 2D8h" "cs_of_none 10 6 (CS) is 046h" "cs_of_1 10 7 (CS) is 180h" "cs_of_255 10 261 (CS) is FFFFh"
+  "did_400 8 3 (DID) is 445h" "sdid_400 8 4 (SDID) is 401h" "dbn_400 8 4 (DBN) is 405h" "dc_400 8 5 (DC) is 402h"
+  "user_400 8 6 (user word 0) is 410h" "last_user_400 8 260 (user word 254) is 4FEh" "cs_400_of_none 10 6 (CS) is 400h" "cs_400 10 8 (CS) is 400h"
+  "cs_400_of_255 10 261 (CS) is 400h" "dc_002 8 5 (DC) is 002h" "dc_302 8 5 (DC) is 302h" "ones 8 3 (DID) is 3FFh" "zeros 8 3 (DID) is 000h"
+  "cs_ones 10 8 (CS) is 3FFh" "flag_inside 8 6 (user word 0) is 000h"
 )
 fresh "$made/"word_*.sheet "$made/noise_1.area"
 sheets=(word_*.sheet)
@@ -1156,6 +1278,185 @@ for words in "${at_fault[@]}"; do
   start=lister expect 0 "refused $number at 1 $at_word" "" <$sheet
 done
 at_word=0
+
+# ---- packets as found, in ten bits
+
+# Those of the same packets that have no other fault are written, come back byte for byte, and are listed as before. The others are refused at the
+# same word: over 3FFh, CS too, with 8 and words of its own.
+written=0
+for words in "${at_fault[@]}"; do
+  read -r name number at_word said <<<"$words"
+  sheet=word_${name}_line.sheet element=$made/word_${name}_line.anc where="packet 1 (line 9), word $at_word $said"
+  if [ -e "$element" ]; then
+    bytes=$(stat -c %s "$element") numbers=$(($(stat -c %s $sheet) / 2))
+    gives new.anc "$element" "written packets 2 bytes $bytes" mxf-write 0 $sheet new.anc --ten
+    # In 1080 FI comes back as 0.
+    cp $sheet right.sheet
+    poke right.sheet 9 '\000'
+    keep
+    gives back.sheet right.sheet "read packets 2 numbers $numbers" mxf-read 1 1 "$element" back.sheet --ten
+    refused $number 1 "right.sheet: $where" list right.sheet
+    at_word=0 refused 18 1 "${sheet/line/none}: packet 1 (no line)" mxf-write 0 ${sheet/line/none} new.anc --ten
+    at_word=0 refused 11 0 ${sheet/line/beyond} mxf-write 0 ${sheet/line/beyond} new.anc --ten
+    written=$((written + 1))
+  elif [ $name != cs_of_1 ]; then
+    [ $number != 10 ] || number=8
+    [ $number != 8 ] || instead=$over
+    refused $number 1 "$sheet: $where" mxf-write 1 $sheet new.anc --ten
+    refused $number 1 "${sheet/line/none}: ${where/line 9/no line}" mxf-write 0 ${sheet/line/none} new.anc --ten
+    refused $number 1 "${sheet/line/beyond}: ${where/ (line 9)/}" mxf-write 0 ${sheet/line/beyond} new.anc --ten
+    instead=
+  fi
+done
+[ $written = 17 ] || fail "$written of the packets are written as found"
+at_word=0
+refused 7 2 "word_cs_of_1_line.sheet: packet 2, word 0 (flag) is 1D8h" mxf-write 0 word_cs_of_1_line.sheet new.anc --ten
+
+# Two faults: the order of the tests (tests/command_files.py, faults_as_found).
+fresh "$made/"*_as_found.sheet "$made/noise_1.area"
+two_faults=(
+  "parity_then_over 8 1 7 packet 1 (line 9), word 7 (user word 1) is 400h" "cs_then_over 8 1 4 packet 1 (line 9), word 4 (SDID) is 400h"
+  "parity_then_flag 7 1 2 packet 1 (line 9), word 2 (flag) is 000h" "parity_then_cut 9 1 8 packet 1 (line 9), word 8 (user word 2) is missing"
+  "over_then_cut 9 1 8 packet 1 (line 9), word 8 (CS) is missing" "dc_over_then_cut 8 1 5 packet 1 (line 9), word 5 (DC) is 5FFh"
+  "over_then_few 7 1 5 packet 1 (line 9), word 5 (DC) is missing" "over_then_cs_over 8 1 7 packet 1 (line 9), word 7 (user word 1) is 400h"
+  "over_then_flag 8 0 7 packet 0 (line 561), word 7 (user word 1) is 400h" "dc_then_flag 7 1 0 packet 1 (line 9), word 0 (flag) is 1D8h"
+  "parity_then_11 11 0 0" "over_then_11 8 1 7 packet 1, word 7 (user word 1) is 400h"
+  "over_then_18 8 1 7 packet 1 (line 9), word 7 (user word 1) is 400h" "fewer_then_18 11 0 0"
+  "passed_over 8 3 6 packet 3 (no line), word 6 (CS) is 400h"
+)
+sheets=(*_as_found.sheet)
+[ ${#sheets[@]} = ${#two_faults[@]} ] || fail "${#sheets[@]} sheets with two faults, not ${#two_faults[@]}"
+for words in "${two_faults[@]}"; do
+  read -r name number place at_word where <<<"$words"
+  [ $number != 8 ] || instead=$over
+  for output in new.anc noise_1.area nowhere/new.anc; do
+    refused $number $place "${name}_as_found.sheet${where:+: $where}" mxf-write 0 ${name}_as_found.sheet $output --ten
+  done
+  instead=
+done
+at_word=0
+
+# Any ten bits, in each system and with each FI; what is not used, and padding, may have any bits too.
+for y in 1 2 3; do
+  fresh "$made/"{damaged_$y.sheet,{damaged,noisy}_${y}_{0,1}.anc}
+  for fi in 0 1; do
+    right=damaged_${y}_$fi
+    packets=70
+    [ $y != 3 ] || packets=35
+    numbers=$(($(stat -c %s "$made/$right.sheet") / 2))
+    gives new.anc $right.anc "written packets $packets bytes $(stat -c %s $right.anc)" mxf-write $fi damaged_$y.sheet new.anc --ten
+    for element in {damaged,noisy}_${y}_$fi.anc; do
+      gives back.sheet "$made/$right.sheet" "read packets $packets numbers $numbers" mxf-read $y $fi $element back.sheet --ten
+    done
+    cp "$made/$right.sheet" back.sheet
+    runs list back.sheet
+    [ "$status$out" = "1$(cat "$made/$right.text")"$'\n' ] || fail "status $status, '$out'"
+    rm back.sheet
+    # An element of one coding is none of the other: the coding of the first packet is at fault.
+    keep
+    refused 19 25 "$right.anc: byte 25" mxf-read $y $fi $right.anc back.sheet
+  done
+  cp "$made/full_$y.anc" .
+  keep
+  refused 19 25 "full_$y.anc: byte 25" mxf-read $y 0 full_$y.anc back.sheet --ten
+done
+
+# At their limits. A sheet that is sound comes back the same from either coding.
+for y in 1 2 3; do
+  fresh "$made/"{wide,wide_less,full}"_$y.sheet" "$made/"{wide{,_less,_over,_limit,_long,_long_over}_$y,wide_words,full_ten_$y}.anc
+  for name in wide wide_less; do
+    numbers=32768
+    [ $name = wide ] || numbers=32767
+    gives new.anc ${name}_$y.anc "written packets $most bytes $longest_ten" mxf-write 0 ${name}_$y.sheet new.anc --ten
+    gives back.sheet ${name}_$y.sheet "read packets $most numbers $numbers" mxf-read $y 0 ${name}_$y.anc back.sheet --ten
+  done
+  gives wide_less_$y.sheet wide_$y.sheet "read packets $most numbers 32768" mxf-read $y 0 wide_long_$y.anc wide_less_$y.sheet --ten
+  gives new.anc full_ten_$y.anc "written packets $most bytes $(stat -c %s full_ten_$y.anc)" mxf-write 0 full_$y.sheet new.anc --ten
+  gives back.sheet full_$y.sheet "read packets $most numbers 32768" mxf-read $y 0 full_ten_$y.anc back.sheet --ten
+  for sheet in back.sheet full_$y.sheet; do
+    for element in wide_over_$y.anc wide_words.anc; do
+      [ $y$element != 3wide_words.anc ] || continue
+      second="$sheet: $even" refused 17 0 $element mxf-read $y 0 $element $sheet --ten
+    done
+    refused 5 $most wide_limit_$y.anc mxf-read $y 0 wide_limit_$y.anc $sheet --ten
+    wrong "wide_long_over_$y.anc: longer than the 262144 bytes that are read" mxf-read $y 0 wide_long_over_$y.anc $sheet --ten
+    refused 19 0 "/dev/null: byte 0" mxf-read $y 0 /dev/null $sheet --ten
+  done
+  # 5 comes before 17, 20 before 5, and 19 before 20: the packet over the limit, whose structure is the last of 62 bytes each.
+  cp wide_limit_$y.anc bad.anc
+  poke bad.anc $((22 + 62 * most)) '\001\054'
+  keep
+  instead="line 300 is a picture line" refused 20 $most "bad.anc: packet $most" mxf-read $y 0 bad.anc new.file --ten
+  poke bad.anc $((24 + 62 * most)) '\002'
+  keep
+  refused 19 $((24 + 62 * most)) "bad.anc: byte $((24 + 62 * most))" mxf-read $y 0 bad.anc new.file --ten
+done
+
+# 19 at every field of an element: the byte that is changed, how, and the byte that is named. The packets' structures begin at bytes 22 and 44.
+fresh_jobs
+for words in '0 \007 0' '7 \000 7' '15 \377 15' '16 \202 16' '16 \004 16' '17 \001 17' '18 \001 17' '19 \055 17' '19 \057 17' \
+  '20 \001 66' '21 \003 66' '21 \001 44' '21 \000 22' '22 \377 22' '23 \000 22' '22 \003 22' '24 \000 24' '24 \001 24' '24 \005 24' \
+  '25 \000 25' '25 \004 25' '25 \005 25' '25 \006 25' '25 \011 25' '25 \012 25' '25 \207 25' '26 \001 26' '27 \000 26' '27 \003 26' \
+  '26 \001\004 26' '26 \001\003 28' '27 \007 28' '31 \036 66' \
+  '28 \001 28' '28 \377\377\377\377 28' '30 \001 28' '31 \000 28' '31 \004 28' '31 \007 28' '31 \037 28' '32 \001 32' '34 \001 32' '35 \000 32' \
+  '35 \002 32' '27 \005 38' '27 \004 38' '38 \026 38' '38 \025 38' '39 \000 38' '39 \014 38' '39 \377 38' \
+  '45 \000 44' '46 \001 46' '47 \004 47' '47 \011 47' '49 \003 48' '49 \006 60' '53 \007 50' '53 \011 50' '57 \000 54' '61 \000 60'; do
+  read -r at byte place <<<"$words"
+  cp found.anc bad.anc
+  poke bad.anc $at "$byte"
+  keep
+  refused 19 $place "bad.anc: byte $place" mxf-read 3 0 bad.anc new.file --ten
+done
+for output in frame.area nowhere/new.file; do
+  refused 19 60 "bad.anc: byte 60" mxf-read 3 0 bad.anc $output --ten
+done
+# Cut, with a length that says so: what is missing is at the end, but for arrays, which are their counts' fault.
+for size in {0..65}; do
+  head -c $size found.anc >bad.anc
+  [ $size -lt 20 ] || poke bad.anc 19 "$(printf '\\%03o' $((size - 20)))"
+  keep
+  place=$size
+  [ $size -lt 32 ] || [ $size -ge 44 ] || place=28
+  [ $size -lt 54 ] || place=50
+  refused 19 $place "bad.anc: byte $place" mxf-read 3 0 bad.anc new.file --ten
+done
+# Bytes behind it, of which the length says nothing, or all.
+cp found.anc bad.anc
+length bad.anc 68
+keep
+refused 19 17 "bad.anc: byte 17" mxf-read 3 0 bad.anc new.file --ten
+poke bad.anc 19 '\060'
+keep
+refused 19 66 "bad.anc: byte 66" mxf-read 3 0 bad.anc new.file --ten
+# Not at fault: what is not used, the upper bits of DC, any other sample.
+for words in '39 \013' '43 \143' '61 \007' '65 \377' '38 \034' '38 \000' '36 \377\377' '40 \000\000\000\000' '40 \377\377\377\377'; do
+  cp found.anc other.anc
+  poke other.anc ${words% *} "${words#* }"
+  expect 0 "read packets 2 numbers 25" "" mxf-read 3 0 other.anc new.file --ten
+  case $words in
+  '39 '* | '43 '* | '61 '* | '65 '*) cmp -s new.file "$made/found_0.sheet" || fail "what is not used has changed the sheet" ;;
+  *) ! cmp -s new.file "$made/found_0.sheet" || fail "the sheet is as it was" ;;
+  esac
+done
+# Lines 7 and 26 in place of 9 and 13.
+for words in '0 23 \007 7 is kept free for switching' '1 45 \032 26 is a picture line'; do
+  read -r packet byte line instead <<<"$words"
+  instead="line $instead"
+  cp found.anc bad.anc
+  poke bad.anc $byte "$line"
+  keep
+  for output in new.file frame.area nowhere/new.file; do
+    for fi in 0 1; do
+      refused 20 $packet "bad.anc: packet $packet" mxf-read 3 $fi bad.anc $output --ten
+    done
+  done
+  instead=
+  refused 3 0 SYSTEM mxf-read 4 0 bad.anc new.file --ten
+  refused 19 25 "bad.anc: byte 25" mxf-read 3 0 bad.anc new.file
+  poke bad.anc $((44 - 22 * packet)) '\377'
+  keep
+  refused 19 $((44 - 22 * packet)) "bad.anc: byte $((44 - 22 * packet))" mxf-read 3 0 bad.anc new.file --ten
+done
 
 # ---- elements of other programs (docs/OUTSIDE-ELEMENTS.md): the byte at which each is refused, then mended
 
@@ -1187,11 +1488,12 @@ done
 fresh_jobs
 cp frame.area folder/target
 ln -s folder/target link
-cp "$made/10_line.sheet" "$made/14_1.area" "$made/full_1.sheet" .
+cp "$made/10_line.sheet" "$made/14_1.area" "$made/full_1.sheet" "$made/over_then_11_as_found.sheet" .
 mkfifo silent
 keep
 # What is said of 10_line.sheet, before the words of 10.
 wrong_cs="packet 0 (line 9), word 8 (CS) is 1D9h"
+has_over="over_then_11_as_found.sheet: packet 1, word 7 (user word 1) is 400h: $over"
 
 # each_output WRITER: the outputs are in `outputs`: a file to replace, one through a link, and a new one.
 each_output() {
@@ -1243,6 +1545,8 @@ for stream in full broken limited readable; do
   wrong "10_line.sheet: $wrong_cs: ${refusals[10]}"$'\n'"$why"$'\n'"$unchanged" lay 1 10_line.sheet frame.area
   wrong "14_1.area: packet 1: ${refusals[14]}"$'\n'"$why"$'\n'"$unchanged" read 1 14_1.area frame.area
   wrong "SYSTEM: ${refusals[3]}"$'\n'"$why"$'\n'"$unchanged" mxf-read 4 0 film.anc new.file
+  wrong "$has_over"$'\n'"$why"$'\n'"$unchanged" mxf-write 0 over_then_11_as_found.sheet frame.area --ten
+  wrong "film.anc: byte 25: ${refusals[19]}"$'\n'"$why"$'\n'"$unchanged" mxf-read 3 0 film.anc new.file --ten
   # What prints nothing has no use for it. With a limit standard error has one too.
   [ $stream = limited ] || front='' wrong "$overview"
   wrong "PACKING: 'x' is no number" lay x cue.sheet frame.area
@@ -1262,7 +1566,8 @@ for start in closed_output closed_input_output closed_output_error closed_all; d
   [[ $start == *error || $start == *all ]] || why="standard output: Bad file descriptor"$'\n'"$unchanged"
   for words in '' x lay lay\ {x\ y\ z,3\ cue.sheet\ frame.area,1\ {silent\ frame.area,cue.sheet\ frame.area,cue.sheet\ folder,nothing\ nothing}} \
     list{,\ silent,\ cue.sheet,\ nothing,\ 10_line.sheet} read\ 1\ {silent,laid_1.area}\ {frame.area,new.file,link,nowhere/x} \
-    mxf-write\ 0\ film.sheet\ new.file mxf-read\ 3\ 0\ {film.anc,silent}\ new.file help{,\ lay,\ x,\ refusals,\ lay\ read} \
+    mxf-write\ 0\ film.sheet\ {new.file,--ten,new.file\ --ten} mxf-read\ 3\ 0\ {film.anc,silent}\ new.file{,\ --ten} \
+    help{,\ lay,\ x,\ refusals,\ lay\ read} \
     --help lay\ --help --version; do
     wrong "$why" $words
   done
@@ -1305,12 +1610,14 @@ for start in closed_error full_error broken_error closed_input_error; do
     done
     stops "" $writer frame.area nothing.file
     stops "" $writer folder
-    wrong "" $writer x
+    wrong "" "${job[0]}" x
   done
   wrong ""
   wrong "" x
   expect 1 "refused 10 at 0 8" "" lay 1 10_line.sheet frame.area
   expect 1 "refused 14 at 1" "" read 1 14_1.area new.file
+  expect 1 "refused 8 at 1 7" "" mxf-write 0 over_then_11_as_found.sheet new.file --ten
+  expect 1 "refused 19 at 25" "" mxf-read 3 0 film.anc new.file --ten
   expect 1 "refused 10 at 0 8" "" list 10_line.sheet
   expect 0 "$listing" "" list cue.sheet
   expect 0 "$overview" "" help
@@ -1319,15 +1626,16 @@ done
 start=vanc
 
 # A full disk: no file may have more than 1,024 bytes. The signal that would end the command is of no effect.
-fresh "$samples/cue.sheet" "$samples/frame.area" "$made/"{fill_2_2.area,full_1.sheet,full_1.anc}
+fresh "$samples/cue.sheet" "$samples/frame.area" "$made/"{fill_2_2.area,full_1.sheet,full_1.anc,wide_1.sheet,wide_1.anc}
 ln -s folder/new.file link
 keep
 full_disk() (ulimit -f 1 && vanc "$@")
 start=full_disk
-for words in lay\ 1\ cue.sheet read\ 2\ fill_2_2.area mxf-write\ 0\ full_1.sheet mxf-read\ 1\ 0\ full_1.anc; do
+for words in lay\ 1\ cue.sheet\ TO read\ 2\ fill_2_2.area\ TO mxf-write\ 0\ {full_1.sheet\ TO,wide_1.sheet\ TO\ --ten} \
+  mxf-read\ 1\ 0\ {full_1.anc\ TO,wide_1.anc\ TO\ --ten}; do
   for name in frame.area new.file link; do
     [[ $words != lay* || $name = frame.area ]] || continue
-    expect 2 "" "$name: not written: File too large" $words $name
+    expect 2 "" "$name: not written: File too large" ${words/TO/$name}
     sees same
   done
 done
@@ -1485,11 +1793,13 @@ start=lister front='' expect 0 "" "standard input: Is a directory" <folder
 sees untouched
 
 # The largest files, one byte at a time.
-fresh "$made/full_1.sheet" "$made/full_1.anc" "$made/fill_2_2.area" "$made/fill_2_2.sheet"
+fresh "$made/full_1.sheet" "$made/full_1.anc" "$made/fill_2_2.area" "$made/fill_2_2.sheet" "$made/wide_1.sheet" "$made/wide_1.anc"
 fault=short
 lists full_1.sheet 0 "$(cat "$made/full_1.text")"
 gives new.file full_1.anc "written packets $most bytes $longest" mxf-write 0 full_1.sheet new.file
 gives new.file full_1.sheet "read packets $most numbers 32768" mxf-read 1 0 full_1.anc new.file
+gives new.file wide_1.anc "written packets $most bytes $longest_ten" mxf-write 0 wide_1.sheet new.file --ten
+gives new.file wide_1.sheet "read packets $most numbers 32768" mxf-read 1 0 wide_1.anc new.file --ten
 gives new.file fill_2_2.sheet "$(cat "$made/fill_2_2.read")" read 2 fill_2_2.area new.file
 fault=
 

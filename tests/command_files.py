@@ -17,12 +17,19 @@ names a line (line), or stands alone in a sheet without any (alone), and for 20 
 packet damaged. KIND_LINE_PLACE_Y.anc, and KIND_LINE_PLACE_Y_K.area: packet PLACE stands on that line, a picture line or one kept free for switching.
 
 word_NAME_WHERE.sheet: packet 1, the last, has a word that is wrong or missing, as NAME says (see `words_at_fault`); WHERE is line or none, as its
-location has it, or beyond, where it has no location."""
+location has it, or beyond, where it has no location. word_NAME_line.anc is its ten-bit element, where as found it has no fault.
+
+Packets as found (request A13), in ten-bit elements. found.sheet: film.sheet with damaged packets; found.anc, those with FI 0, and found_0.sheet, that
+one read; found_film.anc, film.sheet. damaged_Y.sheet: many packets with any ten bits; damaged_Y_F.anc, those that are served with FI F,
+damaged_Y_F.sheet and damaged_Y_F.text, that one read and listed; noisy_Y_F.anc, with padding and with noise in all that is not used. full_ten_Y.anc:
+full_Y.sheet, which is sound. wide_Y: the sheet file with the longest element: 65,536 bytes; wide_less_Y and wide_over_Y (one number fewer, one more);
+wide_long_Y.anc (262,144 bytes, with padding) and wide_long_over_Y.anc; wide_limit_Y.anc (a packet over the limit, too many words); wide_words.anc,
+of over 65,535 words. NAME_as_found.sheet: refused as found (see `faults_as_found`)."""
 import os
 import random
 import sys
 
-from reference import LAST, LIMIT, LINES, area_size, lay, listing, pack, packet, packs_5, read, sheet, sheet_tests, spread, user_bytes
+from reference import FLAG, LAST, LIMIT, LINES, area_size, lay, listing, pack, packet, packs_5, read, sheet, sheet_tests, spread, ten_bits, user_bytes
 
 folder = sys.argv[1]
 samples = os.path.join(os.path.dirname(os.path.abspath(__file__)), "..", "samples")
@@ -60,14 +67,29 @@ def two(n):
     return n.to_bytes(2, "big")
 
 
-def element(system, packets, padding=0, each=0):
+def eight(words):
+    """The coding of luma, the samples, their bytes: of eight bits, without CS."""
+    return 4, words[3:-1], bytes(w & 0xFF for w in words[3:-1])
+
+
+def ten(words):
+    """Of ten bits, with CS."""
+    return 7, words[3:], ten_bits(words[3:])
+
+
+def noisy_ten(words):
+    """The same, with noise in bits and samples that are not used."""
+    return 7, words[3:], ten_bits(words[3:], lambda bits: f"{chance.getrandbits(bits):0{bits}b}")
+
+
+def element(system, packets, padding=0, each=0, coded=eight):
     """ST 436-1, tables 5 to 7, with padding behind the last packet, or behind each."""
     value = two(len(packets))
     for k, (line, flags, words) in enumerate(packets):
-        samples = bytes(w & 0xFF for w in words[3:-1])
+        coding, samples, array = coded(words)
         behind = each + (padding if k + 1 == len(packets) else 0)
-        value += two(line) + bytes([4 if system == 3 else 1, 4 if flags & 2 else 5]) + two(len(samples))
-        value += (len(samples) + behind).to_bytes(4, "big") + (1).to_bytes(4, "big") + samples + chance.randbytes(behind)
+        value += two(line) + bytes([4 if system == 3 else 1, coding if flags & 2 else coding + 1]) + two(len(samples))
+        value += (len(array) + behind).to_bytes(4, "big") + (1).to_bytes(4, "big") + array + chance.randbytes(behind)
     key = bytes.fromhex("060E2B34 01020101 0D010301 17010201")
     return key + b"\x83" + len(value).to_bytes(3, "big") + value
 
@@ -84,6 +106,7 @@ def full(system):
         save(f"{name}_{system}.sheet", pack(s))
         save(f"{name}_{system}.anc", element(system, packets))
         if name == "full":
+            save(f"full_ten_{system}.anc", element(system, packets, coded=ten))
             room = 262144 - len(element(system, packets))
             for long, padding in (("long", room), ("long_less", room - 1), ("long_over", room + 1)):
                 save(f"{long}_{system}.anc", element(system, packets, padding))
@@ -262,6 +285,17 @@ def words_at_fault():
     for words, at, other, name in ((none, 6, 0x046, "cs_of_none"), (two, 8, 0x2D8, "cs"), (longest, 261, 0xFFFF, "cs_of_255")):
         yield name, 10, at, with_word(words, at, other)
     yield "cs_of_1", 10, 7, with_word(two, 5, 0x101)  # DC 1, and the words of DC 2: the last user word stands where CS is looked for
+    # The least word of more than ten bits at each place; the other upper bits of DC; words of nothing but ones, or zeros.
+    for words, at, name in ((two, 3, "did"), (two, 4, "sdid"), (dbn, 4, "dbn"), (two, 5, "dc"), (two, 6, "user"), (longest, 260, "last_user")):
+        yield f"{name}_400", 8, at, with_word(words, at, 0x400 | words[at] & 0xFF)
+    for words, at, name in ((none, 6, "cs_400_of_none"), (two, 8, "cs_400"), (longest, 261, "cs_400_of_255")):
+        yield name, 10, at, with_word(words, at, 0x400)
+    yield "dc_002", 8, 5, with_word(two, 5, 0x002)
+    yield "dc_302", 8, 5, with_word(two, 5, 0x302)
+    yield "ones", 8, 3, [*FLAG, *[0x3FF] * 259]
+    yield "zeros", 8, 3, [*FLAG, *[0x000] * 4]
+    yield "cs_ones", 10, 8, with_word(two, 8, 0x3FF)
+    yield "flag_inside", 8, 6, [*packet(0x45, 0x01, [0, 0xFF, 0xFF])[:6], *FLAG, 0]
 
 
 def sheets_with_words():
@@ -271,6 +305,11 @@ def sheets_with_words():
             s = sheet(1, locations, before + words)
             assert sheet_tests(s)[:3] == (number, 1, at_fault), (name, sheet_tests(s)[:3])
             save(f"word_{name}_{where}.sheet", pack(s))
+            fault, _, at_found, packets = sheet_tests(s, as_found=True)
+            if where == "line" and not fault:
+                save(f"word_{name}_line.anc", element(1, packets, coded=ten))
+            elif where == "line" and name != "cs_of_1":
+                assert (fault, at_found) == (8 if number == 10 else number, at_fault), name
 
 
 def refused_areas():
@@ -324,6 +363,99 @@ def refused_lines():
         save(f"picture_{line}_2_{system}.anc", element(system, [*packets[:2], packets[-1]], each=80000))
 
 
+def served(system, fi, packets):
+    """What is written of a sheet with this FI, and comes back with it: in 1080 all, with FI 0."""
+    return [(line, flags & 2 | (fi if system == 3 else 0), words) for line, flags, words in packets if system != 3 or flags & 1 == fi]
+
+
+def as_found(dc):
+    """A packet of any ten bits with that DC."""
+    words = [chance.getrandbits(10) for _ in range(dc + 4)]
+    words[2] = words[2] & 0x300 | dc
+    return [*FLAG, *words]
+
+
+def found_film():
+    """Of the two packets with FI 0 one has wrong parity in a user word, one a wrong CS; of the others one has a wrong DID."""
+    film = sheet_tests(load_sheet("film.sheet"))[3]
+    save("found_film.anc", element(3, served(3, 0, film), coded=ten))
+    for k, at, other in ((0, 6, 0x3FF), (1, 3, 0x000), (2, 7, 0x000)):
+        line, flags, words = film[k]
+        film[k] = (line, flags, with_word(words, at, other))
+    save("found.sheet", pack(sheet_of(3, film)))
+    save("found.anc", element(3, served(3, 0, film), coded=ten))
+    save("found_0.sheet", pack(sheet_of(3, served(3, 0, film))))
+
+
+def damaged(system):
+    """Packets of many sizes, with every number of samples that the last four bytes can have, and the longest."""
+    sizes = [0, 1, 2, 3, 255, 254, 253, *(k * 37 % 60 for k in range(63))]
+    packets = [(line, flags, as_found(dc)) for dc, (line, flags, _) in zip(sizes, packets_of(system, sizes, lambda k: k % 4))]
+    save(f"damaged_{system}.sheet", pack(sheet_of(system, packets)))
+    for fi in (0, 1):
+        here = served(system, fi, packets)
+        back = pack(sheet_of(system, here))
+        save(f"damaged_{system}_{fi}.anc", element(system, here, coded=ten))
+        save(f"noisy_{system}_{fi}.anc", element(system, here, each=3, coded=noisy_ten))
+        save(f"damaged_{system}_{fi}.sheet", back)
+        save(f"damaged_{system}_{fi}.text", listing(back).encode())
+
+
+def wide(system):
+    """An element has the most bytes where each DC is a multiple of three: then two samples of the last four bytes are not used."""
+    threes, more = divmod(32768 - 4 - 9 * LIMIT, 3)
+    assert more == 1
+    each, rest = divmod(threes, LIMIT)
+    for name, first in (("wide", 1), ("wide_less", 0), ("wide_over", 2)):
+        sizes = [3 * each + 3] * rest + [3 * each] * (LIMIT - rest)
+        sizes[0] += first
+        packets = [(line, flags, as_found(dc)) for dc, (line, flags, _) in zip(sizes, packets_of(system, sizes, lambda k: k % 2 * 2))]
+        s, whole = sheet_of(system, packets), element(system, packets, coded=ten)
+        assert len(s) == 32767 + first and len(whole) == 56456
+        save(f"{name}_{system}.sheet", pack(s))
+        save(f"{name}_{system}.anc", whole)
+        if name == "wide":
+            for long, size in (("wide_long", 262144), ("wide_long_over", 262145)):
+                save(f"{long}_{system}.anc", element(system, packets, size - len(whole), coded=ten))
+    save(f"wide_limit_{system}.anc", element(system, list(packets_of(system, [30] * (LIMIT + 1), lambda k: 0)), coded=ten))
+
+
+def faults_as_found():
+    """Sheets with two faults: the name, the number, the packet, its word, the locations, the words. Wrong parity and a wrong CS are passed over; of
+    the others the first in the order of the tests is named."""
+    two = packet(0x45, 0x01, [0x10, 0x80])
+    over = with_word(two, 7, 0x400)
+    here, there = (561, 1), (9, 0)
+    both = [here, there]
+    yield "parity_then_over", 8, 1, 7, both, two + with_word(over, 3, 0x045)
+    yield "cs_then_over", 8, 1, 4, both, with_word(two, 8, 0x000) + with_word(two, 4, 0x400)
+    yield "parity_then_flag", 7, 1, 2, both, with_word(two, 6, 0x010) + with_word(two, 2, 0x000)
+    yield "parity_then_cut", 9, 1, 8, both, two + with_word(two, 5, 0x3FF)[:8]
+    yield "over_then_cut", 9, 1, 8, both, two + over[:8]
+    yield "dc_over_then_cut", 8, 1, 5, both, two + with_word(two, 5, 0x5FF)
+    yield "over_then_few", 7, 1, 5, both, two + with_word(two, 3, 0xFFFF)[:5]
+    yield "over_then_cs_over", 8, 1, 7, both, two + with_word(over, 8, 0xFFFF)
+    yield "over_then_flag", 8, 0, 7, both, over + with_word(two, 0, 0x3FF)
+    # DC 1, and the words of DC 2: CS stands where the next flag is looked for.
+    yield "dc_then_flag", 7, 1, 0, both, with_word(two, 5, 0x101) + two
+    yield "parity_then_11", 11, 0, 0, [here, there, there], with_word(two, 3, 0x045) + with_word(two, 8, 0x000)
+    yield "over_then_11", 8, 1, 7, [here], two + over
+    yield "over_then_18", 8, 1, 7, [(0, 0), there], two + over
+    yield "fewer_then_18", 11, 0, 0, [(0, 0)], with_word(two, 3, 0x045) + two
+
+
+def sheets_as_found():
+    for name, number, place, at_fault, locations, words in faults_as_found():
+        s = sheet(1, locations, words)
+        found = sheet_tests(s, as_found=True)[:3]
+        assert found == (number, place, at_fault), (name, found)
+        save(f"{name}_as_found.sheet", pack(s))
+    # A packet that is passed over is tested all the same; that it has no line is no matter.
+    film = sheet_tests(load_sheet("film.sheet"))[3]
+    film[3] = (*film[3][:2], with_word(film[3][2], 6, 0x400))
+    save("passed_over_as_found.sheet", pack(sheet_of(3, film)))
+
+
 noise = {system: chance.randbytes(area_size(system)) for system in LAST}
 for system in LAST:
     save(f"noise_{system}.area", noise[system])
@@ -339,3 +471,11 @@ refused_sheets()
 sheets_with_words()
 refused_areas()
 refused_lines()
+found_film()
+for system in LAST:
+    damaged(system)
+    wide(system)
+packets = [(9, 2, as_found(96)) for _ in range(637)]
+assert sum(len(words) for _, _, words in packets) == 65611
+save("wide_words.anc", element(1, packets, coded=ten))
+sheets_as_found()

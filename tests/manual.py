@@ -24,8 +24,9 @@ def plain(text):
 
 
 def version_differences(text, page, name):
+    """Such a number in brackets is a clause of a standard."""
     said = []
-    named, version = set(re.findall(r"\b\d+\.\d+\.\d+\b", page)), header.header_constant(text, "VANC_VERSION")
+    named, version = set(re.findall(r"(?<!\()\b\d+\.\d+\.\d+\b", page)), header.header_constant(text, "VANC_VERSION")
     if named != {version}:
         said.append(f"{name}: it names {sorted(named)}, the version is {version}")
     for number in re.findall(r"whose number is (\d+)", page):
@@ -91,6 +92,8 @@ WRONG_THREE = [
     ("    uint64_t place;\n    uint64_t word;", "    uint64_t word;\n    uint64_t place;"),
     ('.Fa "const uint16_t *words"', '.Fa "uint16_t *words"'),
     ("VANC_ELEMENT_MAX Ta ", "VANC_ELEMENT_MAX Ta 1"),
+    ("VANC_ELEMENT10_MAX Ta ", "VANC_ELEMENT10_MAX Ta 1"),
+    (".Fo vanc_mxf_read10", ".Fo vanc_mxf_read8"),
     ("of version ", "of version 1"),
     ("whose number is ", "whose number is 1"),
 ]

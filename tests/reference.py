@@ -1,5 +1,5 @@
-"""A second implementation of document 01's rules and of the requests A2, A3 and A6, written from the documents and not from the Rattle code: the
-tests' cases are made with it, and it says what has to come out."""
+"""A second implementation of document 01's rules and of the requests A2, A3, A6 and A13, written from the documents and not from the Rattle code:
+the tests' cases are made with it, and it says what has to come out."""
 import struct
 
 LAST = {1: 1125, 2: 1125, 3: 750}
@@ -35,31 +35,32 @@ def sheet(system, locations, words, count=None, total=None):
     return [1, system, len(locations) if count is None else count, *flat, len(words) if total is None else total, *words]
 
 
-def first_wrong(words, places):
-    """The first of these places whose word is not its byte with parity; nothing where all are."""
-    return next((i for i in places if words[i] != word(words[i] & 0xFF)), None)
+def first_wrong(words, places, found):
+    """The first of these places whose word is not its byte with parity or, as found, is over 3FFh; nothing where there is none."""
+    return next((i for i in places if (words[i] > 0x3FF if found else words[i] != word(words[i] & 0xFF))), None)
 
 
-def first_fault(words):
-    """7 to 10 of the packet in front and its first word at fault (request A2), which counts from 0 with the flag's; 0 and 0 for none."""
-    for i, (found, right) in enumerate(zip(words, FLAG)):
-        if found != right:
+def first_fault(words, found=False):
+    """7 to 10 of the packet in front and its first word at fault (request A2), which counts from 0 with the flag's; 0 and 0 for none. A packet as
+    found (request A13) may have any ten bits, CS too."""
+    for i, (flag, right) in enumerate(zip(words, FLAG)):
+        if flag != right:
             return 7, i
     if len(words) < 7:
         return 7, len(words)
-    wrong = first_wrong(words, range(3, 6))
+    wrong = first_wrong(words, range(3, 6), found)
     if wrong is not None:
         return 8, wrong
     cs = 6 + (words[5] & 0xFF)
     if len(words) <= cs:
         return 9, len(words)
-    wrong = first_wrong(words, range(6, cs))
+    wrong = first_wrong(words, range(6, cs + 1 if found else cs), found)
     if wrong is not None:
         return 8, wrong
-    return (0, 0) if words[cs] == check(words[3:cs]) else (10, cs)
+    return (0, 0) if found or words[cs] == check(words[3:cs]) else (10, cs)
 
 
-def sheet_tests(s):
+def sheet_tests(s, as_found=False):
     """The tests 2, 3, 5, 6, 20, 7 to 11: (number, place, word, packets), where a packet is (line, flags, words)."""
     if len(s) < 4 or s[0] != 1:
         return 2, 0, 0, None
@@ -79,7 +80,7 @@ def sheet_tests(s):
             return 20, k, 0, None
     words, found, at = s[4 + 2 * count :], [], 0
     while at < len(words):
-        fault, at_fault = first_fault(words[at:])
+        fault, at_fault = first_fault(words[at:], as_found)
         if fault:
             return fault, len(found), at_fault, None
         size = (words[at + 5] & 0xFF) + 7
@@ -111,6 +112,16 @@ def listing(data):
 
 def pack(numbers):
     return struct.pack(f">{len(numbers)}H", *numbers)
+
+
+def ten_bits(samples, unused=lambda bits: "0" * bits):
+    """Source document 004, 5.4.4: three samples in four bytes, from the high end. What is left of the four bytes is not used: two bits, and in the
+    last four the room of the samples that are not there."""
+    packed = b""
+    for i in range(0, len(samples), 3):
+        bits = "".join(f"{sample:010b}" for sample in samples[i : i + 3])
+        packed += int(bits + unused(32 - len(bits)), 2).to_bytes(4, "big")
+    return packed
 
 
 # ---- blocks
