@@ -153,7 +153,20 @@ module _ (sys : ℕ) (fi : Bool) where
       go true w = let a = w .0 in let b = w .1 in (omega arith, omega arith)
       go false w = let a = w .0 in let b = w .1 in (omega arith, omega arith)
 
-  -- the items that packets make, with a structure each that YCF alone of the flags decides, so that it comes back as it is
+  -- whatever items the packets make, they are no more, and have their packets
+  pub few-back : {X : Type 0} (make : Packet → X) (ps : List Packet) → length (map make (allBack sys fi ps)) ≤ length ps
+  few-back make ps =
+      let a = served-few ps .0 in
+      let b = length-map (allBack sys fi ps) make in
+      let c = length-map (served sys fi ps) (givenBack sys fi) in
+      omega arith
+
+  pub packets-back : {X : Type 0} (packet : X → Packet) (make : Packet → X) → ((p : Packet) → packet (make p) ≡ p) → (qs : List Packet)
+      → map packet (map make qs) ≡ qs
+  packets-back packet make own [] = refl
+  packets-back packet make own (q ∷ qs) = ap₂ (λ (p : Packet) (ps : List Packet). p ∷ ps) (own q) (packets-back packet make own qs)
+
+  -- items with a structure each, of whose flags YCF alone decides, so that it comes back as it is
   module _ {X : Type 0} (structure : X → List ℕ) (make : Packet → X)
       (back : (p : Packet) → structure (make (givenBack sys fi p)) ≡ structure (make p)) where
     joined-back : (qs : List Packet) → joined structure (map make (map (givenBack sys fi) qs)) ≡ joined structure (map make qs)
@@ -163,31 +176,19 @@ module _ (sys : ℕ) (fi : Bool) where
     count-back : (qs : List Packet) → length (map make (map (givenBack sys fi) qs)) ≡ length (map make qs)
     count-back qs = length-map (map (givenBack sys fi) qs) make ∙ length-map qs (givenBack sys fi) ∙ sym (length-map qs make)
 
-    -- no more items than the sheet has packets
-    pub few-back : (ps : List Packet) → length (map make (allBack sys fi ps)) ≤ length ps
-    few-back ps =
-        let a = served-few ps .0 in
-        let b = count-back (served sys fi ps) in
-        let c = length-map (served sys fi ps) make in
-        omega arith
-
     -- the head of the element that is written is that of the items that come back
     pub head-back : (ps : List Packet) → length ps ≤ limit → length (joined structure (map make (served sys fi ps))) ≤ 16777213
         → HeadOf (klv (two (length (map make (served sys fi ps))) ++ joined structure (map make (served sys fi ps))))
         (length (map make (allBack sys fi ps))) (joined structure (map make (allBack sys fi ps)))
     unfolding limit
     head-back ps few short =
-        let n = few-back ps in
+        let n = few-back make ps in
         let l = ap length (joined-back (served sys fi ps)) in
         record {
           few = omega arith;
           short = omega arith;
           bytes = ap₂ (λ (n : ℕ) (js : List ℕ). klv (two n ++ js)) (sym (count-back (served sys fi ps))) (sym (joined-back (served sys fi ps)));
         }
-
-    pub packets-back : (packet : X → Packet) → ((p : Packet) → packet (make p) ≡ p) → (qs : List Packet) → map packet (map make qs) ≡ qs
-    packets-back packet own [] = refl
-    packets-back packet own (q ∷ qs) = ap₂ (λ (p : Packet) (ps : List Packet). p ∷ ps) (own q) (packets-back packet own qs)
 
   -- the words of the sheet are at most 65,535, and those that are served are no more
   pub back-room : (ps : List Packet) → Sixteen (sheetOf sys ps) → (room : ℕ) → length (sheetOf sys (allBack sys fi ps)) ≤ room
@@ -244,20 +245,20 @@ module _ (sys : ℕ) (fi : Bool) where
       let b = head-back sys fi (structure sys) bare structure-back ps few (omega arith) in
       record { held = held-back (served sys fi ps) gs l; few = b .few; short = b .short; bytes = b .bytes }
 
-  -- reading what was written
-  pub comes-back : (s : List ℕ) → Sixteen s → (ps : List Packet) → SheetOf sys ps s → All Lined (served sys fi ps) → (e sheet : List ℕ)
-      → e ≡ elementOf sys (served sys fi ps) → length (sheetOf sys (allBack sys fi ps)) ≤ length sheet
-      → (read sys fi e sheet ≡ readOf sys (listed (allBack sys fi ps)))
-      × (sheetAfter sys fi e sheet ≡ bufferOf sys sheet (listed (allBack sys fi ps)))
-  unfolding read sheetAfter
-  comes-back s hs ps g l e sheet q h =
-      let xs : List Padded = map bare (allBack sys fi ps) in
-      let same = packets-back sys fi (structure sys) bare structure-back (λ (x : Padded). x .packet) (λ p. refl) (allBack sys fi ps) in
-      let given = subst (Gives sys fi xs) (sym q) (written-gives ps (g .sound) l (g .few)) in
-      let few : length xs ≤ limit = let a = few-back sys fi (structure sys) bare structure-back ps in let b = g .few in omega arith in
-      let roomy = ap (hasRoom sys (length sheet)) same ∙ back-room sys fi ps (subst Sixteen (g .whole) hs) (length sheet) h in
-      let w = accepted sys fi e (length sheet) (g .known) xs given few roomy ∙ ap listed same in
-      (ap (readOf sys) w, ap (bufferOf sys sheet) w)
+-- reading what was written
+pub comes-back : (fi : Bool) (s : List ℕ) → Sixteen s → (sys : ℕ) (ps : List Packet) → SheetOf sys ps s → All Lined (served sys fi ps)
+    → (e sheet : List ℕ) → e ≡ elementOf sys (served sys fi ps) → length (sheetOf sys (allBack sys fi ps)) ≤ length sheet
+    → (read sys fi e sheet ≡ readOf sys (listed (allBack sys fi ps)))
+    × (sheetAfter sys fi e sheet ≡ bufferOf sys sheet (listed (allBack sys fi ps)))
+unfolding read sheetAfter
+comes-back fi s hs sys ps g l e sheet q h =
+    let xs : List Padded = map bare (allBack sys fi ps) in
+    let same = packets-back sys fi (λ (x : Padded). x .packet) bare (λ p. refl) (allBack sys fi ps) in
+    let given = subst (Gives sys fi xs) (sym q) (written-gives sys fi ps (g .sound) l (g .few)) in
+    let few : length xs ≤ limit = let a = few-back sys fi bare ps in let b = g .few in omega arith in
+    let roomy = ap (hasRoom sys (length sheet)) same ∙ back-room sys fi ps (subst Sixteen (g .whole) hs) (length sheet) h in
+    let w = accepted sys fi e (length sheet) (g .known) xs given few roomy ∙ ap listed same in
+    (ap (readOf sys) w, ap (bufferOf sys sheet) w)
 
 -- ---- the contract
 
@@ -325,4 +326,4 @@ writes fi s target r after hs er ea =
         ap (take (r .bytes)) (w .1) ∙ take-at (elementOf (x .0) qs) (drop (length (elementOf (x .0) qs)) target) (r .bytes) (sym b) in
         let same : elementOf (x .0) qs ≡ elementOf sys (served sys fi ps) =
         ap₂ (λ (n : ℕ) (rs : List Packet). elementOf n (served n fi rs)) (u .0) (u .1) in
-        comes-back sys fi s hs ps g lined (take (r .bytes) after) sheet (front ∙ same) h
+        comes-back fi s hs sys ps g lined (take (r .bytes) after) sheet (front ∙ same) h
