@@ -1,8 +1,10 @@
 -- The laws of this crate.
 --
---   Figures    the definitions give the elements that were written out by hand
---   TensLaws   ten-bit samples in bytes, and each way through the code of `tens`
---   Samples    the packet of a structure has as many user words as its DC says
+--   Figures       the definitions give the elements that were written out by hand
+--   TensLaws      ten-bit samples in bytes, and each way through the code of `tens`
+--   Samples       the packet of a structure has as many user words as its DC says
+--   ReadingLaws   each way through the code of `reading`
 pub mod Figures
 pub mod TensLaws
 pub mod Samples
+pub mod ReadingLaws
