@@ -9,6 +9,7 @@ use mathlib.Core.List.{List, [], _∷_, _++_, append-nil}
 use native.Mathlib.Omega.{arith}
 use lib.ListN.{length, getD, take, drop, length-drop, length-set, take-append-drop, drop-of-length-le}
 use lib.Seq.{length-take-le, drop-drop}
+use Rattle.rules.specs.Base.{Bytes}
 use Rattle.rules.specs.Packet.{coded, checkOf, words}
 use Rattle.rules.specs.Laying.{low}
 use Rattle.rules.specs.Found.{foundOfWords}
@@ -16,11 +17,16 @@ use Rattle.rules.proofs.Found.{found-whole}
 use Rattle.sheet.proofs.Filling.{part-kept, threeOf}
 use Rattle.mxf.specs.Element.{ten}
 use Rattle.mxf.specs.Judging.{twoIn, fourIn, samplesIn, arrayFor, packetIn}
-use Rattle.mxf.specs.Parts.{Whole}
+use Rattle.mxf.specs.Reading.{readingOf}
+use Rattle.mxf.specs.Parts.{Whole, Answers}
+use Rattle.mxf.specs.declared.ElementRead.{ElementRead}
 use Rattle.mxf.proofs.JudgingLaws.{two-drop, four-drop}
 use Rattle.mxf.proofs.ReadingLaws.{Turn, turn, Wording, wording-room, wording-lent, wording-more}
+use Rattle.mxf10.specs.Reading.{judged, reading, read, sheetAfter}
+use Rattle.mxf10.specs.Demands.{ReadsTen}
 use Rattle.mxf10.proofs.Samples.{shown-long, dc-shown}
 use Rattle.mxf10.proofs.TensLaws.{samples-length, samples-append}
+use Rattle.mxf10.proofs.Accepting.{reads}
 
 -- ---- the words of a packet
 
@@ -63,8 +69,8 @@ module _ (s out : List ℕ) (h : 3 ≤ length out) (k : arrayFor ten (length out
   module _ (ys : List ℕ) (q : ys ≡ take (length behind) (samplesIn s)) where
     pub packet-kept : length (take 3 three ++ (ys ++ drop (length three - 3) (drop 3 three))) ≡ length out
     packet-kept =
-        part-kept 3 (length three - 3) three ys (ap length q ∙ length-take-le (length behind) (samplesIn s) (samples-length s (length behind) packet-fits))
-        ∙ three-long
+        let l = length-take-le (length behind) (samplesIn s) (samples-length s (length behind) packet-fits) in
+        part-kept 3 (length three - 3) three ys (ap length q ∙ l) ∙ three-long
 
     pub packet-laid :
         take 3 three ++ (ys ++ drop (length three - 3) (drop 3 three)) ≡ 0x000 ∷ 0x3FF ∷ 0x3FF ∷ take (length out - 3) (samplesIn s)
@@ -166,3 +172,11 @@ module _ (sys : ℕ) (fi : Bool) (n : ℕ) (s out : List ℕ) (k at o : ℕ) (wa
     ten-more ys q =
         wording-more ten sys fi n s out k at o was h (samples + 3) packet-long (o + sr + 3) next-is ys
         (q ∙ ap (λ (r : List ℕ). 0x000 ∷ 0x3FF ∷ 0x3FF ∷ r) samples-are ∙ sym packet-is) (at + 14 + cr) (ap (λ (m : ℕ). at + 14 + m) ec)
+
+-- ---- the answer as the definitions have it
+
+-- the contract, over an element of bytes
+pub answered : (sys : ℕ) (fi : Bool) (e sheet : List ℕ) (r : ElementRead) (after : List ℕ) → Bytes e
+    → Answers sys sheet (readingOf sys (judged sys fi e) (length sheet)) r after → ReadsTen sys fi e sheet r after
+unfolding reading read sheetAfter
+answered sys fi e sheet r after b a = reads sys fi e sheet r after b (a .answer) (a .buffer)
