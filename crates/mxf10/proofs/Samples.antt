@@ -47,10 +47,10 @@ module _ (sys : ℕ) (fi : Bool) (s : List ℕ) (w : Whole ten s) where
       let r = w .room in
       omega arith
 
-  shown-long : length shown ≡ twoIn s 4
+  pub shown-long : length shown ≡ twoIn s 4
   shown-long = length-take-le (twoIn s 4) (samplesIn (drop 14 s)) (samples-length (drop 14 s) (twoIn s 4) array-long)
 
-  dc-shown : low (getD shown 2 0) ≡ dcIn ten s
+  pub dc-shown : low (getD shown 2 0) ≡ dcIn ten s
   dc-shown =
       let d = w .dc in
       let l = array-long in
