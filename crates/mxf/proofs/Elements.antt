@@ -10,7 +10,7 @@ use native.Mathlib.Omega.{arith}
 use native.Mathlib.Numerals.{add-three}
 use lib.ListN.{length, getD, take, drop, length-append, length-drop, take-append-drop}
 use lib.Seq.{drop-at, take-at, take-append-seam, drop-drop, length-take-le}
-use Rattle.rules.specs.Base.{All, Bytes, joined}
+use Rattle.rules.specs.Base.{All, Bytes}
 use Rattle.rules.specs.Systems.{system, allowed}
 use Rattle.rules.specs.Packet.{Packet, body, Sound}
 use Rattle.rules.specs.Numbers.{Outcome, listed}
@@ -184,10 +184,6 @@ module _ (sys : ℕ) (fi : Bool) (s : List ℕ) (hs : Bytes s) (g : Structure ei
       }
 
 -- ---- an element, both ways
-
-pub value-length : (sys : ℕ) (xs : List Padded) → length (value sys xs) ≡ 2 + length (joined (structure sys) xs)
-unfolding value
-value-length sys xs = omega arith
 
 module _ (sys : ℕ) (fi : Bool) where
   abbrev view : Padded → Packet
