@@ -25,7 +25,7 @@ use Rattle.mxf.specs.Element.{ten}
 use Rattle.mxf.specs.Judging.{twoIn, fourIn, samplesIn, arrayFor, sizeIn, dcIn, frontThen, arrayThen, sampled, packetIn}
 use Rattle.mxf.specs.Parts.{Whole}
 use Rattle.mxf.proofs.Inversion.{Structure}
-use Rattle.mxf.proofs.Structures.{laid, line-back, samples-back, array-back, behind-back, laid-length, flags-back, structure-passes, rest-back}
+use Rattle.mxf.proofs.Structures.{laid, Says, laid-says, flags-back, structure-passes, rest-back}
 use Rattle.mxf.proofs.Structures.{flagsIn, flags-small, flags-own, array-long, array-rest, structure-split}
 use Rattle.mxf.proofs.Structures.{packets-give, Kind, ElementBy, element-read, element-one, element-written}
 use Rattle.mxf10.specs.Element.{Arrayed, packetsOf, source, samples, structure, value, element}
@@ -54,15 +54,15 @@ module _ (sys : ℕ) (fi : Bool) (x : Arrayed) (r : List ℕ) (g : Held sys fi x
   abbrev size : ℕ
   size = length (x .array)
 
-  is-laid : s ≡ laid ten sys (p .line) (p .flags) (samples p) size (x .array) ++ r
+  says : Says ten sys (p .line) (p .flags) (samples p) size (x .array) r s
   unfolding structure laid
-  is-laid = refl
+  says = laid-says ten sys (p .line) (p .flags) (samples p) size (x .array) r s refl
 
   samples-shown : take (twoIn s 4) (samplesIn (drop 14 s)) ≡ source p
   samples-shown =
-      let n = samples-back ten sys (p .line) (p .flags) (samples p) size (x .array) r s is-laid in
-      let b = behind-back ten sys (p .line) (p .flags) (samples p) size (x .array) r s is-laid in
-      ap₂ (λ (n : ℕ) (t : List ℕ). take n (samplesIn t)) n b ∙ samples-append (x .array) r (samples p) (g .long) ∙ g .shows
+      ap₂ (λ (n : ℕ) (t : List ℕ). take n (samplesIn t)) (says .samples) (says .behind)
+      ∙ samples-append (x .array) r (samples p) (g .long)
+      ∙ g .shows
 
   words-shown : 0x000 ∷ 0x3FF ∷ 0x3FF ∷ take (twoIn s 4) (samplesIn (drop 14 s)) ≡ words p ++ []
   unfolding words
@@ -70,8 +70,8 @@ module _ (sys : ℕ) (fi : Bool) (x : Arrayed) (r : List ℕ) (g : Held sys fi x
 
   dc-back : dcIn ten s + 4 ≡ samples p
   dc-back =
-      let n = samples-back ten sys (p .line) (p .flags) (samples p) size (x .array) r s is-laid in
-      let l = laid-length ten sys (p .line) (p .flags) (samples p) size (x .array) r s is-laid in
+      let n = says .samples in
+      let l = says .long in
       let h = g .long in
       let d = sym (dc-sample s (twoIn s 4) (omega arith) (omega arith)) ∙ ap dcOf words-shown ∙ dc-low p [] (g .found .within .many) in
       ap (λ (k : ℕ). k + 4) d
@@ -79,24 +79,22 @@ module _ (sys : ℕ) (fi : Bool) (x : Arrayed) (r : List ℕ) (g : Held sys fi x
   passes : (at : ℕ) (o : Outcome) → frontThen ten sys at s (arrayThen ten at s o) ≡ o
   passes =
       let m = g .found .within .many in
-      structure-passes ten sys (p .line) (p .flags) (samples p) size (x .array) r s is-laid (g .lined) (g .found .within .line) (omega arith)
+      structure-passes ten sys (p .line) (p .flags) (samples p) size (x .array) r s says (g .lined) (g .found .within .line) (omega arith)
       (omega arith) (g .long) refl dc-back
 
   structure-packet : packetIn ten sys fi s ≡ p
   structure-packet =
       let shown : sampled ten s ≡ bare p = ap foundOfWords words-shown ∙ found-back (system sys) p [] (g .found) in
-      let line = line-back ten sys (p .line) (p .flags) (samples p) size (x .array) r s is-laid in
-      let flags = flags-back ten sys (p .line) (p .flags) (samples p) size (x .array) r s is-laid fi (g .own) (g .found .within .flags) in
-      λ i. record { did = shown i .did; sdid = shown i .sdid; user = shown i .user; line = line i; flags = flags i; mark = shown i .mark }
+      let flags = flags-back ten sys (p .line) (p .flags) (samples p) size (x .array) r s says fi (g .own) (g .found .within .flags) in
+      λ i. record { did = shown i .did; sdid = shown i .sdid; user = shown i .user; line = says .line i; flags = flags i; mark = shown i .mark }
 
   structure-rest : drop (sizeIn s) s ≡ r
-  structure-rest = rest-back ten sys (p .line) (p .flags) (samples p) size (x .array) r s is-laid refl
+  structure-rest = rest-back ten sys (p .line) (p .flags) (samples p) size (x .array) r s says refl
 
   structure-arrayed : arrayedIn sys fi s ≡ x
   structure-arrayed =
-      let n = array-back ten sys (p .line) (p .flags) (samples p) size (x .array) r s is-laid in
-      let b = behind-back ten sys (p .line) (p .flags) (samples p) size (x .array) r s is-laid in
-      let array : take (fourIn s 6) (drop 14 s) ≡ x .array = ap₂ (λ (n : ℕ) (t : List ℕ). take n t) n b ∙ take-at (x .array) r size refl in
+      let array : take (fourIn s 6) (drop 14 s) ≡ x .array =
+      ap₂ (λ (n : ℕ) (t : List ℕ). take n t) (says .array) (says .behind) ∙ take-at (x .array) r size refl in
       λ i. record { packet = structure-packet i; array = array i }
 
 -- ---- a structure: what is read was written
