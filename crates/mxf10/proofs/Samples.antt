@@ -34,6 +34,13 @@ third (a ∷ b ∷ c ∷ d ∷ s) l =
     let e : a * 16777216 + (b * 65536 + (c * 256 + d)) ≡ (a * 256 + b) * 65536 + (c * 256 + d) = omega arith in
     ap (λ (x : ℕ). x / 4 % 1024 % 256) e ∙ low-bits (a * 256 + b) (c * 256 + d)
 
+-- wherever it is among so many samples of a structure
+pub dc-sample : (s : List ℕ) (n : ℕ) → 3 ≤ n → 18 ≤ length s → low (getD (take n (samplesIn (drop 14 s))) 2 0) ≡ dcIn ten s
+dc-sample s n h l =
+    ap low (getD-take n (samplesIn (drop 14 s)) 2 0 (omega arith))
+    ∙ third (drop 14 s) (let k = length-drop 14 s in omega arith)
+    ∙ ap (λ (x : ℕ). x / 4 % 256) (two-drop 14 2 s)
+
 -- ---- the user words
 
 module _ (sys : ℕ) (fi : Bool) (s : List ℕ) (w : Whole ten s) where
@@ -51,12 +58,7 @@ module _ (sys : ℕ) (fi : Bool) (s : List ℕ) (w : Whole ten s) where
   shown-long = length-take-le (twoIn s 4) (samplesIn (drop 14 s)) (samples-length (drop 14 s) (twoIn s 4) array-long)
 
   pub dc-shown : low (getD shown 2 0) ≡ dcIn ten s
-  dc-shown =
-      let d = w .dc in
-      let l = array-long in
-      ap low (getD-take (twoIn s 4) (samplesIn (drop 14 s)) 2 0 (omega arith))
-      ∙ third (drop 14 s) (omega arith)
-      ∙ ap (λ (x : ℕ). x / 4 % 256) (two-drop 14 2 s)
+  dc-shown = let d = w .dc in let a = w .room in let b = w .there in dc-sample s (twoIn s 4) (omega arith) (omega arith)
 
   pub user-long : length (packetIn ten sys fi s .user) ≡ dcIn ten s
   user-long =
