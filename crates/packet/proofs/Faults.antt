@@ -1,8 +1,8 @@
 -- The first fault of the packet in front, in the order of its tests: what the code has found where it stops says which it is.
 --
--- In order: the words before the first wrong one; DID, SDID and DC; the tests; the tests by the place of the first wrong word.
+-- In order: DID, SDID and DC; the tests; the tests by the place of the first wrong word.
 -- Assumes nothing.
-use Prim.Native.Nat.{ℕ, zero, suc, _+_, _-_, _%_, _≤_, _<_, min}
+use Prim.Native.Nat.{ℕ, _+_, _-_, _%_, _≤_, _<_, min}
 use mathlib.Core.Path.{_≡_, refl, sym, ap, ap₂, _∙_}
 use mathlib.Core.Bool.{Bool, true, false, cond, not, _&&_, _||_}
 use mathlib.Core.List.{List, [], _∷_}
@@ -12,42 +12,16 @@ use lib.ListN.{length, getD, take, drop, length-take, length-drop}
 use lib.Seq.{take-add, take-take, drop-drop}
 use borrow.Author.Tests.{ltb-false, lt-ltb, le-ltb, ne-eqb}
 use Rattle.rules.specs.Packet.{sum9, check}
-use Rattle.rules.specs.Laying.{isWord, areWords, flagged, dcIn, wordsFault, wordsBefore}
+use Rattle.rules.specs.Laying.{isWord, areWords, flagged, dcIn, faultBy, wordsFault, wordsBefore}
 use Rattle.rules.proofs.Basics.{neither, second-false, drop-take}
-use Rattle.rules.proofs.Words.{words-append}
+use Rattle.rules.proofs.Words.{words-append, front-shown}
 use Rattle.packet.specs.Run.{checkSum}
-use Rattle.packet.proofs.Laws.{check-of-sum}
-
--- ---- the words before the first wrong one: so many are right, and more are not
-
-one-right : (b x : Bool) (n k : ℕ) → suc n ≤ cond b (suc k) 0 → (n ≤ k → x ≡ true) → (b && x) ≡ true
-one-right true x n k h f = f (omega arith)
-one-right false x n k h f = absurd (omega arith)
-
-one-wrong : (b x : Bool) (n k : ℕ) → cond b (suc k) 0 < suc n → (k < n → x ≡ false) → (b && x) ≡ false
-one-wrong true x n k h f = f (omega arith)
-one-wrong false x n k h f = refl
-
-words-before : (n : ℕ) (s : List ℕ) → n ≤ wordsBefore s → areWords (take n s) ≡ true
-words-before zero s h = refl
-words-before (suc n) [] h = refl
-words-before (suc n) (w ∷ s) h = one-right (isWord w) (areWords (take n s)) n (wordsBefore s) h (λ k. words-before n s k)
-
-words-past : (n : ℕ) (s : List ℕ) → n ≤ length s → wordsBefore s < n → areWords (take n s) ≡ false
-words-past zero s l h = absurd (omega arith)
-words-past (suc n) [] l h = absurd (omega arith)
-words-past (suc n) (w ∷ s) l h = one-wrong (isWord w) (areWords (take n s)) n (wordsBefore s) h (λ k. words-past n s (omega arith) k)
+use Rattle.packet.proofs.Laws.{each-word, each-before, each-past, check-of-sum}
 
 -- ---- DID, SDID and DC
 
 pub heads : (s : List ℕ) → 6 ≤ length s → take 3 (drop 3 s) ≡ getD s 3 0 ∷ getD s 4 0 ∷ getD s 5 0 ∷ []
-heads [] h = absurd (omega arith)
-heads (x ∷ []) h = absurd (omega arith)
-heads (x ∷ y ∷ []) h = absurd (omega arith)
-heads (x ∷ y ∷ z ∷ []) h = absurd (omega arith)
-heads (x ∷ y ∷ z ∷ a ∷ []) h = absurd (omega arith)
-heads (x ∷ y ∷ z ∷ a ∷ b ∷ []) h = absurd (omega arith)
-heads (x ∷ y ∷ z ∷ a ∷ b ∷ c ∷ s) h = refl
+heads s h = front-shown 0 s h
 
 -- each is tested apart
 module _ (s : List ℕ) (h : 6 ≤ length s) where
@@ -85,41 +59,60 @@ check-parts s a b c u h e f g k =
 
 -- ---- the tests, each with what those before it have found
 
+-- too few words, or another flag
+abbrev pub unflagged : List ℕ → Bool
+unflagged s = ltb (length s) 7 || not (flagged s)
+
+pub seven-words : (s : List ℕ) → unflagged s ≡ false → 7 ≤ length s
+seven-words s flag = ltb-false (length s) 7 (neither (ltb (length s) 7) (not (flagged s)) flag .0)
+
+-- whatever 8 asks of words, and whatever is said of CS
+module _ (right : List ℕ → Bool) (last : ℕ) (s : List ℕ) where
+  pub by-flag : unflagged s ≡ true → 7 ≡ faultBy right last s
+  by-flag e = rw e
+
+  module _ (flag : unflagged s ≡ false) where
+    pub by-head : right (take 3 (drop 3 s)) ≡ false → 8 ≡ faultBy right last s
+    by-head e = rw (flag, e)
+
+    module _ (head : right (take 3 (drop 3 s)) ≡ true) where
+      pub by-size : length s < dcIn s + 7 → 9 ≡ faultBy right last s
+      by-size h = rw (flag, head, lt-ltb (length s) (dcIn s + 7) h)
+
+      -- the user words and CS are left
+      pub by-rest : dcIn s + 7 ≤ length s → faultBy right last s ≡ cond (not (right (take (dcIn s) (drop 6 s)))) 8 last
+      by-rest long = rw (flag, head, le-ltb (length s) (dcIn s + 7) long)
+
 module _ (s : List ℕ) where
-  -- too few words, or another flag
-  abbrev pub unflagged : Bool
-  unflagged = ltb (length s) 7 || not (flagged s)
-
-  pub fault-flag : unflagged ≡ true → 7 ≡ wordsFault s
+  pub fault-flag : unflagged s ≡ true → 7 ≡ wordsFault s
   unfolding wordsFault
-  fault-flag e = rw e
+  fault-flag e = by-flag areWords _ s e
 
-  module _ (flag : unflagged ≡ false) where
-    pub seven-words : 7 ≤ length s
-    seven-words = ltb-false (length s) 7 (neither (ltb (length s) 7) (not (flagged s)) flag .0)
-
+  module _ (flag : unflagged s ≡ false) where
     pub fault-head : areWords (take 3 (drop 3 s)) ≡ false → 8 ≡ wordsFault s
     unfolding wordsFault
-    fault-head e = rw (flag, e)
+    fault-head e = by-head areWords _ s flag e
 
     module _ (head : areWords (take 3 (drop 3 s)) ≡ true) where
       pub fault-size : length s < dcIn s + 7 → 9 ≡ wordsFault s
       unfolding wordsFault
-      fault-size h = rw (flag, head, lt-ltb (length s) (dcIn s + 7) h)
+      fault-size h = by-size areWords _ s flag head h
 
       module _ (long : dcIn s + 7 ≤ length s) where
-        pub fault-user : areWords (take (dcIn s) (drop 6 s)) ≡ false → 8 ≡ wordsFault s
+        -- CS alone is left behind the user words
+        abbrev right : Bool
+        right = eqb (getD s (dcIn s + 6) 0) (check (take (dcIn s + 3) (drop 3 s)))
+
+        rest : wordsFault s ≡ cond (not (areWords (take (dcIn s) (drop 6 s)))) 8 (cond (not right) 10 0)
         unfolding wordsFault
-        fault-user e = rw (flag, head, le-ltb (length s) (dcIn s + 7) long, e)
+        rest = by-rest areWords _ s flag head long
 
-        -- CS alone is left
+        pub fault-user : areWords (take (dcIn s) (drop 6 s)) ≡ false → 8 ≡ wordsFault s
+        fault-user e = rw (rest, e)
+
         module _ (user : areWords (take (dcIn s) (drop 6 s)) ≡ true) where
-          abbrev right : Bool
-          right = eqb (getD s (dcIn s + 6) 0) (check (take (dcIn s + 3) (drop 3 s)))
-
           last : wordsFault s ≡ cond (not right) 10 0
-          unfolding wordsFault
-          last = rw (flag, head, le-ltb (length s) (dcIn s + 7) long, user)
+          last = rw (rest, user)
 
           sound-is : right ≡ eqb (wordsFault s) 0
           sound-is = rw last (go right)
@@ -135,8 +128,11 @@ module _ (s : List ℕ) where
           fault-check e = rw (last, sound-is ∙ e)
 
 -- a packet at fault is not sound
+pub not-fine : (n f : ℕ) → 0 < n → n ≡ f → false ≡ eqb f 0
+not-fine n f h e = sym (ne-eqb f 0 (λ z. absurd (omega arith)))
+
 pub not-sound : (n : ℕ) (s : List ℕ) → 0 < n → n ≡ wordsFault s → false ≡ eqb (wordsFault s) 0
-not-sound n s h e = sym (ne-eqb (wordsFault s) 0 (λ z. absurd (omega arith)))
+not-sound n s h e = not-fine n (wordsFault s) h e
 
 -- ---- the tests by the place of the first wrong word, looked for in the packet's own words
 
@@ -153,10 +149,10 @@ module _ (s : List ℕ) (w : ℕ) (e : w ≡ 3 + wordsBefore (drop 3 (take (dcIn
       rw (drop-take 3 (dcIn s + 7) s, n) (take-take k (dcIn s + 4) (drop 3 s) h)
 
   pub wrong-head : w < 6 → areWords (take 3 (drop 3 s)) ≡ false
-  wrong-head h = rw (← own-part 3 (omega arith)) (words-past 3 own (let k = own-long in omega arith) (omega arith))
+  wrong-head h = rw (← own-part 3 (omega arith)) (each-past isWord areWords wordsBefore each-word 3 own (let k = own-long in omega arith) (omega arith))
 
   pub right-head : 6 ≤ w → areWords (take 3 (drop 3 s)) ≡ true
-  right-head h = rw (← own-part 3 (omega arith)) (words-before 3 own (omega arith))
+  right-head h = rw (← own-part 3 (omega arith)) (each-before isWord areWords wordsBefore each-word 3 own (omega arith))
 
   module _ (head : areWords (take 3 (drop 3 s)) ≡ true) where
     user-are : areWords (take (3 + dcIn s) own) ≡ areWords (take (dcIn s) (drop 6 s))
@@ -165,7 +161,7 @@ module _ (s : List ℕ) (w : ℕ) (e : w ≡ 3 + wordsBefore (drop 3 (take (dcIn
         ∙ rw (take-add 3 (dcIn s) (drop 3 s), drop-drop 3 3 s, words-append (take 3 (drop 3 s)) (take (dcIn s) (drop 6 s)), head)
 
     pub wrong-user : dcIn s + 7 ≤ length s → w < dcIn s + 6 → areWords (take (dcIn s) (drop 6 s)) ≡ false
-    wrong-user m h = sym user-are ∙ words-past (3 + dcIn s) own (let k = own-long in omega arith) (omega arith)
+    wrong-user m h = sym user-are ∙ each-past isWord areWords wordsBefore each-word (3 + dcIn s) own (let k = own-long in omega arith) (omega arith)
 
     pub right-user : dcIn s + 6 ≤ w → areWords (take (dcIn s) (drop 6 s)) ≡ true
-    right-user h = sym user-are ∙ words-before (3 + dcIn s) own (omega arith)
+    right-user h = sym user-are ∙ each-before isWord areWords wordsBefore each-word (3 + dcIn s) own (omega arith)

@@ -1,11 +1,11 @@
 -- What the proofs of the functions rest on.
 --
--- In order: the parity of a byte; the table of words; a pass over words; a pass over a part of them; the sum that CS holds; the word that a
--- number names; the packets before the one that is named.
+-- In order: the parity of a byte; the table of words; words tested one by one; a pass over words; a pass over a part of them; the sum that CS
+-- holds; the word that a number names; the packets before the one that is named.
 -- Assumes nothing.
 use Prim.Native.Nat.{ℕ, zero, suc, _+_, _-_, _*_, _/_, _%_, _≤_, _<_}
 use mathlib.Core.Path.{_≡_, refl, ap, sym, _∙_, subst}
-use mathlib.Core.Bool.{Bool, true, false, _&&_}
+use mathlib.Core.Bool.{Bool, true, false, cond, _&&_}
 use mathlib.Core.List.{List, [], _∷_, _++_}
 use native.Mathlib.Omega.{arith}
 use native.Mathlib.Nat.{add-zero, zero-add, le-refl}
@@ -64,17 +64,75 @@ pub table-word : (t : List ℕ) (w b : ℕ) → t ≡ wordTable → b ≡ w % 25
 unfolding isWord
 table-word t w b right e = rw (right, e, table-at (w % 256) (omega arith))
 
+-- ---- words tested one by one
+
+one-right : (b x : Bool) (n k : ℕ) → suc n ≤ cond b (suc k) 0 → (n ≤ k → x ≡ true) → (b && x) ≡ true
+one-right true x n k h f = f (omega arith)
+one-right false x n k h f = absurd (omega arith)
+
+one-wrong : (b x : Bool) (n k : ℕ) → cond b (suc k) 0 < suc n → (k < n → x ≡ false) → (b && x) ≡ false
+one-wrong true x n k h f = f (omega arith)
+one-wrong false x n k h f = refl
+
+-- whether a test holds of all of some words, and how many stand in front of the first of which it does not
+pub record Each (test : ℕ → Bool) (all : List ℕ → Bool) (before : List ℕ → ℕ) : Type 0 where
+  pub nothing : all [] ≡ true
+  pub first : (w : ℕ) (ws : List ℕ) → all (w ∷ ws) ≡ (test w && all ws)
+  pub none : before [] ≡ 0
+  pub front : (w : ℕ) (ws : List ℕ) → before (w ∷ ws) ≡ cond (test w) (suc (before ws)) 0
+
+pub each-word : Each isWord areWords wordsBefore
+each-word = record { nothing = refl; first = λ w ws. refl; none = refl; front = λ w ws. refl }
+
+module _ (test : ℕ → Bool) (all : List ℕ → Bool) (before : List ℕ → ℕ) (e : Each test all before) where
+  -- in a pass: what the word at i adds, and the end
+  pub each-next : (ok : Bool) (i : ℕ) (ws : List ℕ) → i < length ws
+      → ((ok && test (getD ws i 0)) && all (drop (i + 1) ws)) ≡ (ok && all (drop i ws))
+  each-next true i ws h = rw (add-one i, drop-cons ws i 0 h) (sym (e .first (getD ws i 0) (drop (suc i) ws)))
+  each-next false i ws h = refl
+
+  pub each-end : (ok : Bool) (i : ℕ) (ws : List ℕ) → length ws ≤ i → (ok && all (drop i ws)) ≡ ok
+  each-end true i ws h = rw (drop-of-length-le ws h) (e .nothing)
+  each-end false i ws h = refl
+
+  -- in a search: the test holds of the word at i, or does not, or there is none
+  pub search-next : (i : ℕ) (ws : List ℕ) → i < length ws → test (getD ws i 0) ≡ true → i + 1 + before (drop (i + 1) ws) ≡ i + before (drop i ws)
+  search-next i ws h q =
+      let f : before (drop i ws) ≡ suc (before (drop (suc i) ws)) = rw (drop-cons ws i 0 h, e .front (getD ws i 0) (drop (suc i) ws), q) in
+      rw (add-one i) (omega arith)
+
+  pub search-here : (i : ℕ) (ws : List ℕ) → i < length ws → test (getD ws i 0) ≡ false → i ≡ i + before (drop i ws)
+  search-here i ws h q =
+      let f : before (drop i ws) ≡ 0 = rw (drop-cons ws i 0 h, e .front (getD ws i 0) (drop (suc i) ws), q) in
+      omega arith
+
+  pub search-end : (i : ℕ) (ws : List ℕ) → length ws ≤ i → i ≡ i + before (drop i ws)
+  search-end i ws h = let f : before (drop i ws) ≡ 0 = rw (drop-of-length-le ws h) (e .none) in omega arith
+
+  -- of so many words the test holds, and of more it does not
+  pub each-before : (n : ℕ) (s : List ℕ) → n ≤ before s → all (take n s) ≡ true
+  each-before zero s h = e .nothing
+  each-before (suc n) [] h = e .nothing
+  each-before (suc n) (w ∷ s) h =
+      let f = e .front w s in
+      e .first w (take n s) ∙ one-right (test w) (all (take n s)) n (before s) (omega arith) (λ k. each-before n s k)
+
+  pub each-past : (n : ℕ) (s : List ℕ) → n ≤ length s → before s < n → all (take n s) ≡ false
+  each-past zero s l h = absurd (omega arith)
+  each-past (suc n) [] l h = absurd (omega arith)
+  each-past (suc n) (w ∷ s) l h =
+      let f = e .front w s in
+      e .first w (take n s) ∙ one-wrong (test w) (all (take n s)) n (before s) (omega arith) (λ k. each-past n s (omega arith) k)
+
 -- ---- a pass over words: what the word at i adds, and the end
 
 pub words-next : (ok : Bool) (i w : ℕ) (ws : List ℕ) → i < length ws → w ≡ word (getD ws i 0 % 256)
     → ((ok && eqb (getD ws i 0) w) && areWords (drop (i + 1) ws)) ≡ (ok && areWords (drop i ws))
 unfolding isWord
-words-next true i w ws h e = rw (e, add-one i, drop-cons ws i 0 h)
-words-next false i w ws h e = refl
+words-next ok i w ws h e = rw e (each-next isWord areWords wordsBefore each-word ok i ws h)
 
 pub words-end : (ok : Bool) (i : ℕ) (ws : List ℕ) → length ws ≤ i → (ok && areWords (drop i ws)) ≡ ok
-words-end true i ws h = rw (drop-of-length-le ws h)
-words-end false i ws h = refl
+words-end ok i ws h = each-end isWord areWords wordsBefore each-word ok i ws h
 
 -- the same where each word is tested apart
 words-at : (i : ℕ) (ws : List ℕ) → i < length ws → areWords (drop i ws) ≡ (isWord (getD ws i 0) && areWords (drop (i + 1) ws))
@@ -163,15 +221,15 @@ flag-right (a ∷ b ∷ c ∷ s) l e f g = rw (eq-eqb a 0x000 e, eq-eqb b 0x3FF 
 module _ (i w : ℕ) (ws : List ℕ) (h : i < length ws) (e : w ≡ word (getD ws i 0 % 256)) where
   pub before-next : getD ws i 0 ≡ w → i + 1 + wordsBefore (drop (i + 1) ws) ≡ i + wordsBefore (drop i ws)
   unfolding isWord
-  before-next q =
-      rw (add-one i, drop-cons ws i 0 h, eq-eqb (getD ws i 0) (word (getD ws i 0 % 256)) (q ∙ e)) (omega arith)
+  before-next q = search-next isWord areWords wordsBefore each-word i ws h (eq-eqb (getD ws i 0) (word (getD ws i 0 % 256)) (q ∙ e))
 
   pub before-here : (getD ws i 0 ≡ w → ⊥) → i ≡ i + wordsBefore (drop i ws)
   unfolding isWord
-  before-here q = rw (drop-cons ws i 0 h, ne-eqb (getD ws i 0) (word (getD ws i 0 % 256)) (λ d. q (d ∙ sym e))) (omega arith)
+  before-here q =
+      search-here isWord areWords wordsBefore each-word i ws h (ne-eqb (getD ws i 0) (word (getD ws i 0 % 256)) (λ d. q (d ∙ sym e)))
 
 pub before-end : (i : ℕ) (ws : List ℕ) → length ws ≤ i → i ≡ i + wordsBefore (drop i ws)
-before-end i ws h = rw (drop-of-length-le ws h) (omega arith)
+before-end i ws h = search-end isWord areWords wordsBefore each-word i ws h
 
 -- one packet alone: no words, refused or sound
 pub one-none : (s : List ℕ) → length s ≡ 0 → record { number = 7; word = 0; kind = 0 } ≡ judged s
@@ -219,7 +277,6 @@ behind-next ws at n (suc left) place h e f =
     subst (λ (s : List ℕ). drop n s ≡ drop (dcIn s + 7) s) (rest-part at ws) e in
     rw k (ap (fromPacket left) (sym (drop-drop n at ws) ∙ g) ∙ f)
 
-pub behind-all : (ws : List ℕ) (number at left place : ℕ) → left ≡ 0 → fromPacket left (drop at ws) ≡ fromPacket place ws
-    → wordAt number (take (length ws - at) (drop at ws)) ≡ wordAt number (fromPacket place ws)
-behind-all ws number at left place z f =
-    ap (wordAt number) (rest-part at ws ∙ ap (λ (n : ℕ). fromPacket n (drop at ws)) (sym z) ∙ f)
+pub behind-all : {A : Type 0} (f : List ℕ → A) (ws : List ℕ) (at left place : ℕ) → left ≡ 0 → fromPacket left (drop at ws) ≡ fromPacket place ws
+    → f (take (length ws - at) (drop at ws)) ≡ f (fromPacket place ws)
+behind-all f ws at left place z g = ap f (rest-part at ws ∙ ap (λ (n : ℕ). fromPacket n (drop at ws)) (sym z) ∙ g)

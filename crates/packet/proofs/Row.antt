@@ -1,6 +1,7 @@
 -- Packets back to back: what each way through the loop over them says of the rules, and one packet alone.
 --
--- In order: the figures of packets; a packet and what follows it (`cut-fault`); the test of one (`one-number`).
+-- In order: the figures of packets; a row of words, whatever its tests; the figures of packets back to back; a packet and what follows it
+-- (`cut-fault`); the test of one (`one-number`).
 -- Assumes nothing.
 use Prim.Native.Nat.{ℕ, zero, suc, _+_, _-_, _*_, _/_, _%_, _≤_, _<_}
 use mathlib.Core.Path.{_≡_, refl, sym, ap, ap₂, _∙_}
@@ -17,8 +18,8 @@ use Rattle.rules.specs.Base.{sum}
 use Rattle.rules.specs.Packet.{Packet, check}
 use Rattle.rules.specs.Danc.{bytesOf, stringBytes}
 use Rattle.rules.specs.Packing1.{packsOf}
-use Rattle.rules.specs.Numbers.{Outcome, listed, refused, also, packetsIn}
-use Rattle.rules.specs.Laying.{areWords, flagged, low, dcIn, wordsFault, packetOfWords, wordRow, packetsOfWords}
+use Rattle.rules.specs.Numbers.{Outcome, listed, refused, also, Row, packetsIn}
+use Rattle.rules.specs.Laying.{areWords, flagged, low, dcIn, wordsFault, packetOfWords, noWords, wordRow, packetsOfWords}
 use Rattle.rules.specs.Lister.{testedOf}
 use Rattle.rules.specs.declared.Tested.{Tested}
 use Rattle.rules.proofs.Basics.{rest-part}
@@ -53,31 +54,97 @@ add-also sys k at packs p (listed ps) =
     let c : packs + (packsOf p + sum (map packsOf ps)) ≡ packs + packsOf p + sum (map packsOf ps) = omega arith in
     λ i. counted sys (a i) (b i) (c i)
 
--- the packet at the front of some words, and those after it
-front : (left i : ℕ) (s : List ℕ) → 0 < length s
-    → packetsIn wordRow (suc left) i s
-    ≡ cond (eqb (wordsFault s) 0) (also (packetOfWords s) (packetsIn wordRow left (suc i) (drop (dcIn s + 7) s))) (refused (wordsFault s) i)
+-- the words that are lent from a place on
+abbrev pub lent : ℕ → List ℕ → List ℕ
+lent at ws = take (length ws - at) (drop at ws)
+
+-- ---- a row of words, whatever the tests of a packet and the packet that it shows, where one without a fault has all its words
+
+module _ (fault : List ℕ → ℕ) (packet : List ℕ → Packet) where
+  abbrev pub rowOf : Row ℕ
+  rowOf = record { ends = noWords; fault = fault; packet = packet; rest = λ (s : List ℕ). drop (dcIn s + 7) s }
+
+  -- what is needed of the tests
+  pub record Long : Type 0 where
+    pub long : (s : List ℕ) → fault s ≡ 0 → dcIn s + 7 ≤ length s
+    pub enough : (f g i : ℕ) (s : List ℕ) → length s ≤ f → length s ≤ g → packetsIn rowOf f i s ≡ packetsIn rowOf g i s
+
+  -- the packet at the front of some words, and those after it
+  front : (left i : ℕ) (s : List ℕ) → 0 < length s
+      → packetsIn rowOf (suc left) i s
+      ≡ cond (eqb (fault s) 0) (also (packet s) (packetsIn rowOf left (suc i) (drop (dcIn s + 7) s))) (refused (fault s) i)
+  front left i [] h = absurd (omega arith)
+  front left i (w ∷ s) h = refl
+
+  pub front-fault : (left i : ℕ) (s : List ℕ) → 0 < length s → 0 < left → (fault s ≡ 0 → ⊥) → packetsIn rowOf left i s ≡ refused (fault s) i
+  front-fault zero i s h l f = absurd (omega arith)
+  front-fault (suc left) i s h l f = front left i s h ∙ rw (ne-eqb (fault s) 0 f)
+
+  pub front-none : (left i : ℕ) → packetsIn rowOf left i [] ≡ listed []
+  front-none zero i = refl
+  front-none (suc left) i = refl
+
+  module _ (w : Long) where
+    pub front-fine : (left i : ℕ) (s : List ℕ) → 0 < length s → length s ≤ left → fault s ≡ 0
+        → packetsIn rowOf left i s ≡ also (packet s) (packetsIn rowOf (left - (dcIn s + 7)) (i + 1) (drop (dcIn s + 7) s))
+    front-fine zero i s h l f = absurd (omega arith)
+    front-fine (suc left) i s h l f =
+        let k = length-drop (dcIn s + 7) s in
+        let z = w .long s f in
+        front left i s h
+        ∙ rw (
+          f,
+          add-one i,
+          w .enough left (suc left - (dcIn s + 7)) (suc i) (drop (dcIn s + 7) s) (omega arith) (omega arith),
+        )
+
+  -- the packets from a place on
+  module _ (at : ℕ) (ws : List ℕ) where
+    abbrev pub packetsFrom : ℕ → Outcome
+    packetsFrom k = packetsIn rowOf (length ws - at) k (drop at ws)
+
+    -- no packet is left
+    pub row-end : (k : ℕ) → length ws ≤ at → packetsFrom k ≡ listed []
+    row-end k h = rw (drop-of-length-le ws h) (front-none (length ws - at) k)
+
+    -- "the first at fault is named"
+    pub row-stop : (f k : ℕ) → at < length ws → f ≡ fault (lent at ws) → eqb (fault (lent at ws)) 0 ≡ false → packetsFrom k ≡ refused f k
+    row-stop f k h e g =
+        let l = length-drop at ws in
+        let is : f ≡ fault (drop at ws) = e ∙ ap fault (rest-part at ws) in
+        front-fault (length ws - at) k (drop at ws) (omega arith) (omega arith) (λ z. eqb-false (fault (lent at ws)) 0 g (sym e ∙ is ∙ z))
+        ∙ ap (λ (n : ℕ). refused n k) (sym is)
+
+    module _ (w : Long) (z : eqb (fault (lent at ws)) 0 ≡ true) where
+      pub row-fine : fault (drop at ws) ≡ 0
+      row-fine = ap fault (sym (rest-part at ws)) ∙ eqb-true (fault (lent at ws)) 0 z
+
+      pub row-dc : dcIn (drop at ws) ≡ getD ws (at + 5) 0 % 256
+      row-dc = ap low (getD-drop at ws 5 0)
+
+      -- all its words are there
+      pub row-there : at + (getD ws (at + 5) 0 % 256 + 7) ≤ length ws
+      row-there = let d = row-dc in let l = length-drop at ws in let m = w .long (drop at ws) row-fine in omega arith
+
+      -- one packet more
+      pub row-next : (dc k : ℕ) → dc ≡ getD ws (at + 5) 0 % 256
+          → packetsFrom k ≡ also (packet (drop at ws)) (packetsIn rowOf (length ws - (at + (dc + 7))) (k + 1) (drop (at + (dc + 7)) ws))
+      row-next dc k e =
+          let s : List ℕ = drop at ws in
+          let l : length s ≡ length ws - at = length-drop at ws in
+          let d : dcIn s ≡ dc = row-dc ∙ sym e in
+          let m = row-there in
+          let n : length ws - at - (dcIn s + 7) ≡ length ws - (at + (dc + 7)) = omega arith in
+          let t : drop (dcIn s + 7) s ≡ drop (at + (dc + 7)) ws =
+          drop-drop (dcIn s + 7) at ws ∙ ap (λ (m : ℕ). drop (at + (m + 7)) ws) d in
+          front-fine w (length ws - at) k s (omega arith) (omega arith) row-fine
+          ∙ (λ i. also (packet s) (packetsIn rowOf (n i) (k + 1) (t i)))
+
+-- ---- the figures of packets back to back
+
+word-long : Long wordsFault packetOfWords
 unfolding wordRow
-front left i [] h = absurd (omega arith)
-front left i (w ∷ s) h = refl
-
-front-fault : (left i : ℕ) (s : List ℕ) → 0 < length s → 0 < left → (wordsFault s ≡ 0 → ⊥)
-    → packetsIn wordRow left i s ≡ refused (wordsFault s) i
-front-fault zero i s h l f = absurd (omega arith)
-front-fault (suc left) i s h l f = front left i s h ∙ rw (ne-eqb (wordsFault s) 0 f)
-
-front-fine : (left i : ℕ) (s : List ℕ) → 0 < length s → length s ≤ left → wordsFault s ≡ 0
-    → packetsIn wordRow left i s ≡ also (packetOfWords s) (packetsIn wordRow (left - (dcIn s + 7)) (i + 1) (drop (dcIn s + 7) s))
-front-fine zero i s h l f = absurd (omega arith)
-front-fine (suc left) i s h l f =
-    let k = length-drop (dcIn s + 7) s in
-    let z = fault-long s f in
-    front left i s h
-    ∙ rw (
-      f,
-      add-one i,
-      words-enough left (suc left - (dcIn s + 7)) (suc i) (drop (dcIn s + 7) s) (omega arith) (omega arith),
-    )
+word-long = record { long = fault-long; enough = words-enough }
 
 pub no-packets : (sys : ℕ) (ws : List ℕ) → length ws ≡ 0 → counted sys 0 0 0 ≡ testedOf sys (packetsOfWords ws)
 unfolding packetsOfWords wordRow
@@ -87,56 +154,39 @@ no-packets sys (w ∷ ws) h = absurd (omega arith)
 -- no packet is left
 pub at-end : (sys k at packs : ℕ) (ws : List ℕ) → length ws ≤ at → counted sys k at packs ≡ wholeFrom sys k at packs ws
 unfolding wordRow
-at-end sys k at packs ws h =
-    let z : length ws - at ≡ 0 = omega arith in
-    rw (z, drop-of-length-le ws h) (simp add-zero)
+at-end sys k at packs ws h = rw (row-end wordsFault packetOfWords at ws k h) (simp add-zero)
 
 -- a place, and the words that are lent from there on
 module _ (at : ℕ) (ws : List ℕ) where
-  abbrev lent : List ℕ
-  lent = take (length ws - at) (drop at ws)
-
   -- "the first at fault is named"
-  pub at-fault : (f : ℕ) → at < length ws → f ≡ wordsFault lent → eqb (wordsFault lent) 0 ≡ false
+  pub at-fault : (f : ℕ) → at < length ws → f ≡ wordsFault (lent at ws) → eqb (wordsFault (lent at ws)) 0 ≡ false
       → (sys k packs : ℕ) → testedOf 0 (refused f k) ≡ wholeFrom sys k at packs ws
-  at-fault f h e g sys k packs =
-      let l = length-drop at ws in
-      let fault-is : f ≡ wordsFault (drop at ws) = e ∙ ap wordsFault (rest-part at ws) in
-      let o : packetsIn wordRow (length ws - at) k (drop at ws) ≡ refused (wordsFault (drop at ws)) k =
-      front-fault (length ws - at) k (drop at ws) (omega arith) (omega arith) (λ z. eqb-false (wordsFault lent) 0 g (sym e ∙ fault-is ∙ z)) in
-      sym (ap (addTo sys k at packs) (o ∙ ap (λ (n : ℕ). refused n k) (sym fault-is)))
+  unfolding wordRow
+  at-fault f h e g sys k packs = sym (ap (addTo sys k at packs) (row-stop wordsFault packetOfWords at ws f k h e g))
 
-  module _ (z : eqb (wordsFault lent) 0 ≡ true) where
-    fine : wordsFault (drop at ws) ≡ 0
-    fine = ap wordsFault (sym (rest-part at ws)) ∙ eqb-true (wordsFault lent) 0 z
-
-    dc-is : dcIn (drop at ws) ≡ getD ws (at + 5) 0 % 256
-    dc-is = ap low (getD-drop at ws 5 0)
-
+  module _ (z : eqb (wordsFault (lent at ws)) 0 ≡ true) where
     -- all its words are there
     pub all-there : at + (getD ws (at + 5) 0 % 256 + 7) ≤ length ws
-    all-there = let d = dc-is in let l = length-drop at ws in let m = fault-long (drop at ws) fine in omega arith
+    all-there = row-there wordsFault packetOfWords at ws word-long z
 
     -- one packet more; the two packs of each that have no user bytes are counted apart
     pub at-next : (dc : ℕ) → dc ≡ getD ws (at + 5) 0 % 256 → (sys k packs : ℕ)
         → wholeFrom sys (k + 1) (at + (dc + 7)) (packs + (dc + 3) / 4 + 2 * (k + 1)) ws ≡ wholeFrom sys k at (packs + 2 * k) ws
+    unfolding wordRow
     at-next dc e sys k packs =
         let s : List ℕ = drop at ws in
-        let l : length s ≡ length ws - at = length-drop at ws in
-        let d : dcIn s ≡ dc = dc-is ∙ sym e in
-        let long : dcIn s + 7 ≤ length s = fault-long s fine in
+        let d : dcIn s ≡ dc = row-dc wordsFault packetOfWords at ws word-long z ∙ sym e in
+        let long : dcIn s + 7 ≤ length s = fault-long s (row-fine wordsFault packetOfWords at ws word-long z) in
         let m : length (take (dcIn s) (drop 6 s)) ≡ dcIn s = length-take-le (dcIn s) (drop 6 s) (let n = length-drop 6 s in omega arith) in
         let u : length (packetOfWords s .user) ≡ dc = length-map (take (dcIn s) (drop 6 s)) low ∙ m ∙ d in
         let a : at + bytesOf (packetOfWords s) ≡ at + (dc + 7) = ap (λ (n : ℕ). at + (n + 7)) u in
         let b : packs + 2 * k + packsOf (packetOfWords s) ≡ packs + (dc + 3) / 4 + 2 * (k + 1) =
         ap (λ (n : ℕ). packs + 2 * k + (1 + (1 + (n + 3) / 4))) u ∙ (omega arith) in
-        let n : length ws - at - (dcIn s + 7) ≡ length ws - (at + (dc + 7)) = omega arith in
-        let t : drop (dcIn s + 7) s ≡ drop (at + (dc + 7)) ws =
-        drop-drop (dcIn s + 7) at ws ∙ ap (λ (m : ℕ). drop (at + (m + 7)) ws) d in
+        let later : Outcome = packetsIn wordRow (length ws - (at + (dc + 7))) (k + 1) (drop (at + (dc + 7)) ws) in
         sym
-        (ap (addTo sys k at (packs + 2 * k)) (front-fine (length ws - at) k s (omega arith) (omega arith) fine)
-        ∙ add-also sys k at (packs + 2 * k) (packetOfWords s) (packetsIn wordRow (length ws - at - (dcIn s + 7)) (k + 1) (drop (dcIn s + 7) s))
-        ∙ (λ i. addTo sys (k + 1) (a i) (b i) (packetsIn wordRow (n i) (k + 1) (t i))))
+        (ap (addTo sys k at (packs + 2 * k)) (row-next wordsFault packetOfWords at ws word-long z dc k e)
+        ∙ add-also sys k at (packs + 2 * k) (packetOfWords s) later
+        ∙ (λ i. addTo sys (k + 1) (a i) (b i) later))
 
 -- ---- a packet and what follows it
 
@@ -191,15 +241,10 @@ some-taken : (n : ℕ) (s : List ℕ) → 0 < length s → 0 < length (take (n +
 some-taken n [] h = absurd (omega arith)
 some-taken n (x ∷ s) h = rw (add-seven n) (omega arith)
 
-none-left : (m i : ℕ) → packetsIn wordRow m i [] ≡ listed []
-unfolding wordRow
-none-left zero i = refl
-none-left (suc m) i = refl
-
 -- the words of a packet, as far as they are there, tested as packets back to back
 pub one-number : (s part : List ℕ) (t : Tested) → 0 < length s → part ≡ take (dcIn s + 7) s → t ≡ testedOf 0 (packetsOfWords part)
     → t .number ≡ wordsFault s
-unfolding packetsOfWords
+unfolding packetsOfWords wordRow
 one-number s part t h e q = ap (λ (x : Tested). x .number) q ∙ go (eqb (wordsFault part) 0) refl ∙ ap wordsFault e ∙ cut-fault s
   where
     dc : dcIn part ≡ dcIn s
@@ -214,5 +259,10 @@ one-number s part t h e q = ap (λ (x : Tested). x .number) q ∙ go (eqb (words
     go : (b : Bool) → eqb (wordsFault part) 0 ≡ b → testedOf 0 (packetsIn wordRow (length part) 0 part) .number ≡ wordsFault part
     go true z =
         let f : wordsFault part ≡ 0 = eqb-true (wordsFault part) 0 z in
-        rw (front-fine (length part) 0 part some (le-refl (length part)) f, none, none-left (length part - (dcIn part + 7)) (0 + 1)) (sym f)
-    go false z = rw (front-fault (length part) 0 part some some (eqb-false (wordsFault part) 0 z))
+        rw (
+          front-fine wordsFault packetOfWords word-long (length part) 0 part some (le-refl (length part)) f,
+          none,
+          front-none wordsFault packetOfWords (length part - (dcIn part + 7)) (0 + 1),
+        )
+        (sym f)
+    go false z = rw (front-fault wordsFault packetOfWords (length part) 0 part some some (eqb-false (wordsFault part) 0 z))

@@ -135,6 +135,10 @@ pub all-append : {X : Type 0} (P : X → Type 0) (xs zs : List X) → All P xs �
 all-append P [] zs g h = h
 all-append P (x ∷ xs) zs (one g gs) h = one g (all-append P xs zs gs h)
 
+pub all-give : {X : Type 0} (P Q : X → Type 0) → ((x : X) → P x → Q x) → (xs : List X) → All P xs → All Q xs
+all-give P Q h [] g = none
+all-give P Q h (x ∷ xs) (one g gs) = one (h x g) (all-give P Q h xs gs)
+
 pub written-back : (ps : List Packet) → packetsOf (map written ps) ≡ ps
 written-back [] = refl
 written-back (p ∷ ps) = ap (λ (qs : List Packet). p ∷ qs) (written-back ps)

@@ -12,6 +12,7 @@ pub mod Packs
 pub mod Users
 pub mod Sheets
 pub mod Laying
+pub mod Found
 pub mod Reading
 pub mod Walker
 pub mod Lister

@@ -11,28 +11,24 @@ use lib.Dec.{eqb, leb}
 use lib.ListN.{length}
 use borrow.Author.Tests.{eqb-true, leb-true, eq-eqb, le-leb}
 use Rattle.rules.specs.Base.{joined, sum}
-use Rattle.rules.specs.Systems.{known, system}
-use Rattle.rules.specs.Packet.{Packet}
+use Rattle.rules.specs.Packet.{Packet, Sound}
 use Rattle.rules.specs.Danc.{written, string, stringBytes}
 use Rattle.rules.specs.Sheet.{systemIn, wordsIn}
 use Rattle.rules.specs.Packing1.{packs, packsOf}
 use Rattle.rules.specs.Numbers.{Outcome, listed, refused, unless}
-use Rattle.rules.specs.Laying.{wordAt, fromPacket, wordIn, shaped, sheetTests}
+use Rattle.rules.specs.Laying.{wordAt, fromPacket, wordIn, packetsOfWords, listTests, sheetTests}
 use Rattle.rules.specs.Lister.{testedOf, testedIn, tested, fileOf, numbersOf, listing}
 use Rattle.rules.specs.Demands.{SheetOf, Tests}
 use Rattle.rules.specs.declared.Tested.{Tested}
 use Rattle.rules.proofs.Basics.{never, both, written-back}
 use Rattle.rules.proofs.Strings.{string-room}
 use Rattle.rules.proofs.Packs.{packs-length}
-use Rattle.rules.proofs.Sheets.{system-back, sheet-read, sheet-laid, unless-from, list-refused}
+use Rattle.rules.proofs.Sheets.{sound-reader, system-back, sheet-read, sheet-laid, sheet-refused-by}
 
 -- a refusal's number is not 0
 pub sheet-refused : (s : List ℕ) (n i : ℕ) → sheetTests s ≡ refused n i → 1 ≤ n
-unfolding sheetTests
-sheet-refused s n i e =
-    unless-from 1 2 (shaped s) _ n i
-    (unless-from 1 3 (known (systemIn s)) _ n i (λ q. let h = list-refused (system (systemIn s)) s n i q in omega arith)
-    (omega arith)) (omega arith) e
+unfolding sheetTests listTests
+sheet-refused s n i e = sheet-refused-by packetsOfWords Sound sound-reader s n i e
 
 -- the contract of the lister's tests follows from its first field
 pub tests : (s : List ℕ) (r : Tested) → r ≡ tested s → Tests s r

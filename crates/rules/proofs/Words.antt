@@ -7,21 +7,21 @@ use mathlib.Core.Path.{_≡_, refl, sym, ap, ap₂, _∙_, subst}
 use mathlib.Core.Bool.{Bool, true, false, cond, not, _&&_, _||_, and-assoc}
 use mathlib.Core.List.{List, [], _∷_, _++_, map, append-assoc, append-nil}
 use native.Mathlib.Omega.{arith}
-use native.Mathlib.Numerals.{add-three, add-seven}
+use native.Mathlib.Numerals.{add-three}
 use lib.Dec.{eqb, ltb}
-use lib.ListN.{length, getD, take, drop, length-append, length-map}
-use lib.Seq.{length-take-le, split-at, getD-drop, getD-at, take-at, drop-at}
+use lib.ListN.{length, getD, take, drop, length-append, length-map, length-drop}
+use lib.Seq.{length-take-le, split-at, getD-drop, getD-at, take-at, take-add, drop-at, drop-drop}
 use borrow.Author.Tests.{ltb-false, eqb-true, le-ltb, eq-eqb}
 use Rattle.rules.specs.Base.{Bytes, All, none, one}
 use Rattle.rules.specs.Systems.{System}
 use Rattle.rules.specs.Packet.{Mark, sound, found, Packet, body, ones, parity, word, check, raised, codedAs, coded, checkOf, words, Sound}
 use Rattle.rules.specs.Danc.{bytesOf, stringBytes}
 use Rattle.rules.specs.Sheet.{allWords}
-use Rattle.rules.specs.Numbers.{listed, refused, packetsIn}
-use Rattle.rules.specs.Laying.{isWord, areWords, flagged, low, dcIn, wordsFault, packetOfWords, noWords, wordRow, packetsOfWords}
+use Rattle.rules.specs.Numbers.{listed, refused, Row, packetsIn}
+use Rattle.rules.specs.Laying.{isWord, areWords, flagged, low, dcIn, faultBy, wordsFault, packetOfWords, noWords, wordRow, packetsOfWords}
 use Rattle.rules.proofs.Basics.{never, both}
 use Rattle.rules.proofs.Lines.{allowed-none}
-use Rattle.rules.proofs.Rows.{Anything, row-read, row-laid, row-enough, row-fault}
+use Rattle.rules.proofs.Rows.{Anything, Cut, Uncut, row-read, row-laid, row-enough, row-fault}
 
 -- ---- a byte's word
 
@@ -119,6 +119,28 @@ dc-low p r h = go (p .mark)
     go sound = low-word (length (p .user)) h
     go (found us cs) = omega arith
 
+-- a packet's words and what follows, whatever the mark: how many they are, DID to the last user word, CS, and what follows
+module _ (p : Packet) (r : List ℕ) where
+  pub words-long : length (words p ++ r) ≡ length (p .user) + 7 + length r
+  words-long = let k = packet-words p in let l = length-append (words p) r in omega arith
+
+  pub coded-taken : take (length (p .user) + 3) (drop 3 (words p ++ r)) ≡ coded p
+  unfolding words
+  coded-taken = rw (append-assoc (coded p) (checkOf p ∷ []) r) (take-at (coded p) ((checkOf p ∷ []) ++ r) (length (p .user) + 3) (coded-length p))
+
+  pub check-taken : getD (words p ++ r) (length (p .user) + 6) 0 ≡ checkOf p
+  unfolding words
+  check-taken =
+      let s : List ℕ = words p ++ r in
+      let e : length (p .user) + 6 ≡ 3 + (length (p .user) + 3) = omega arith in
+      ap (λ (n : ℕ). getD s n 0) e
+      ∙ sym (getD-drop 3 s (length (p .user) + 3) 0)
+      ∙ ap (λ (t : List ℕ). getD t (length (p .user) + 3) 0) (append-assoc (coded p) (checkOf p ∷ []) r)
+      ∙ getD-at (coded p) (checkOf p) r 0 (length (p .user) + 3) (coded-length p)
+
+  pub rest-taken : length (p .user) < 256 → drop (dcIn (words p ++ r) + 7) (words p ++ r) ≡ r
+  rest-taken h = rw (dc-low p r h) (drop-at (words p) r (length (p .user) + 7) (packet-words p))
+
 coded-sound : (p : Packet) → p .mark ≡ sound → coded p ≡ map word (body p)
 unfolding coded
 coded-sound p e = rw e
@@ -142,32 +164,19 @@ module _ (y : System) (p : Packet) (r : List ℕ) (g : Sound y p) where
       rw (append-assoc (map word (p .user)) (checkOf p ∷ []) r)
       (take-at (map word (p .user)) ((checkOf p ∷ []) ++ r) (length (p .user)) (length-map (p .user) word))
 
-  check-back : getD s (length (p .user) + 6) 0 ≡ checkOf p
-  unfolding words
-  check-back =
-      let e : length (p .user) + 6 ≡ 3 + (length (p .user) + 3) = omega arith in
-      ap (λ (n : ℕ). getD s n 0) e
-      ∙ sym (getD-drop 3 s (length (p .user) + 3) 0)
-      ∙ ap (λ (t : List ℕ). getD t (length (p .user) + 3) 0) (append-assoc (coded p) (checkOf p ∷ []) r)
-      ∙ getD-at (coded p) (checkOf p) r 0 (length (p .user) + 3) (coded-length p)
-
   sum-back : check (take (length (p .user) + 3) (drop 3 s)) ≡ checkOf p
-  unfolding words checkOf
-  sum-back =
-      rw (append-assoc (coded p) (checkOf p ∷ []) r, take-at (coded p) ((checkOf p ∷ []) ++ r) (length (p .user) + 3) (coded-length p), g .mark)
-
-  length-back : length s ≡ length (p .user) + 7 + length r
-  length-back = let k = packet-words p in let l = length-append (words p) r in omega arith
+  unfolding checkOf
+  sum-back = rw (coded-taken p r, g .mark)
 
   pub fault-back : wordRow .fault s ≡ 0
   unfolding wordRow wordsFault words
   fault-back =
-      let k = length-back in
+      let k = words-long p r in
       rw (
         le-ltb (length s) 7 (omega arith),
         dc-back,
         le-ltb (length s) (length (p .user) + 7) (omega arith),
-        check-back,
+        check-taken p r,
         sum-back,
         eq-eqb (checkOf p) (checkOf p) refl,
         coded-back,
@@ -185,91 +194,100 @@ module _ (y : System) (p : Packet) (r : List ℕ) (g : Sound y p) where
 
   rest-back : wordRow .rest s ≡ r
   unfolding wordRow
-  rest-back = rw dc-back (drop-at (words p) r (length (p .user) + 7) (packet-words p))
+  rest-back = rest-taken p r (g .many)
 
   goes-on : wordRow .ends s ≡ false
   unfolding wordRow words
   goes-on = refl
 
--- the tests of a packet that has no fault
-passed : (a b c d e f : Bool)
-    → _≡_ {A = ℕ} (cond (a || not b) 7 (cond (not c) 8 (cond d 9 (cond (not e) 8 (cond (not f) 10 0))))) 0
+-- the tests of a packet that has no fault, whatever the last of them gives
+pub passed : (last : ℕ) (a b c d e f : Bool)
+    → _≡_ {A = ℕ} (cond (a || not b) 7 (cond (not c) 8 (cond d 9 (cond (not e) 8 (cond (not f) (suc last) 0))))) 0
     → (a ≡ false) × (b ≡ true) × (c ≡ true) × (d ≡ false) × (e ≡ true) × (f ≡ true)
-passed true b c d e f q = absurd (omega arith)
-passed false false c d e f q = absurd (omega arith)
-passed false true false d e f q = absurd (omega arith)
-passed false true true true e f q = absurd (omega arith)
-passed false true true false false f q = absurd (omega arith)
-passed false true true false true false q = absurd (omega arith)
-passed false true true false true true q = (refl, refl, refl, refl, refl, refl)
+passed last true b c d e f q = absurd (omega arith)
+passed last false false c d e f q = absurd (omega arith)
+passed last false true false d e f q = absurd (omega arith)
+passed last false true true true e f q = absurd (omega arith)
+passed last false true true false false f q = absurd (omega arith)
+passed last false true true false true false q = absurd (omega arith)
+passed last false true true false true true q = (refl, refl, refl, refl, refl, refl)
 
--- words without a fault are those of the packet that they show
-module _ (x y z a b n : ℕ) (t : List ℕ) where
-  abbrev W : List ℕ
-  W = x ∷ y ∷ z ∷ a ∷ b ∷ n ∷ t
+-- DID, SDID, DC, and n words behind them
+pub front-split : (n : ℕ) (s : List ℕ) → take (n + 3) (drop 3 s) ≡ take 3 (drop 3 s) ++ take n (drop 6 s)
+front-split n s = let e : n + 3 ≡ 3 + n = omega arith in rw (e, take-add 3 n (drop 3 s), drop-drop 3 3 s)
 
-  abbrev p : Packet
-  p = packetOfWords W
+pub front-shown : (n : ℕ) (s : List ℕ) → 6 ≤ length s
+    → take (n + 3) (drop 3 s) ≡ getD s 3 0 ∷ getD s 4 0 ∷ getD s 5 0 ∷ take n (drop 6 s)
+front-shown n [] h = absurd (omega arith)
+front-shown n (x ∷ []) h = absurd (omega arith)
+front-shown n (x ∷ y ∷ []) h = absurd (omega arith)
+front-shown n (x ∷ y ∷ z ∷ []) h = absurd (omega arith)
+front-shown n (x ∷ y ∷ z ∷ a ∷ []) h = absurd (omega arith)
+front-shown n (x ∷ y ∷ z ∷ a ∷ b ∷ []) h = absurd (omega arith)
+front-shown n (x ∷ y ∷ z ∷ a ∷ b ∷ c ∷ s) h = rw (add-three n)
 
-  fine-words : (sys : System) → wordsFault W ≡ 0 → (W ≡ words p ++ drop (dcIn W + 7) W) × Sound sys p
-  unfolding wordsFault words coded checkOf
-  fine-words sys e =
-      let w =
-      passed (ltb (length W) 7) (flagged W) (areWords (take 3 (drop 3 W))) (ltb (length W) (dcIn W + 7)) (areWords (take (dcIn W) (drop 6 W)))
-      (eqb (getD W (dcIn W + 6) 0) (check (take (dcIn W + 3) (drop 3 W)))) e in
-      let f = both (eqb x 0) (eqb y 0x3FF && eqb z 0x3FF) (w .1) in
-      let f2 = both (eqb y 0x3FF) (eqb z 0x3FF) (f .1) in
-      let g = both (isWord a) (isWord b && (isWord n && true)) (w .2) in
-      let g2 = both (isWord b) (isWord n && true) (g .1) in
-      let g3 = both (isWord n) true (g2 .1) in
-      let l : low n + 7 ≤ length W = ltb-false (length W) (low n + 7) (w .3) in
-      let k : low n < length t = omega arith in
-      let u : map word (map low (take (low n) t)) ≡ take (low n) t = words-map (take (low n) t) (w .4) in
-      let c : getD t (low n) 0 ≡ check (take (low n + 3) (drop 3 W)) =
-      getD-drop 6 W (low n) 0
-      ∙ ap (λ (m : ℕ). getD W m 0) (swap (low n))
-      ∙ eqb-true (getD W (dcIn W + 6) 0) (check (take (dcIn W + 3) (drop 3 W))) (w .5) in
-      let c2 : take (low n + 3) (drop 3 W) ≡ a ∷ b ∷ n ∷ take (low n) t = rw (add-three (low n)) in
-      let ln : length (map low (take (low n) t)) ≡ low n = length-map (take (low n) t) low ∙ length-take-le (low n) t (omega arith) in
-      let head : map word (body p) ≡ a ∷ b ∷ n ∷ take (low n) t =
-      λ i. word-is a (g .0) i ∷ word-is b (g2 .0) i ∷ (ap word ln ∙ word-is n (g3 .0)) i ∷ u i in
-      let cs : getD t (low n) 0 ≡ check (map word (body p)) = c ∙ ap check (c2 ∙ sym head) in
-      let r : List ℕ = drop (suc (low n)) t in
-      let sp : t ≡ take (low n) t ++ check (map word (body p)) ∷ r = split-at t (low n) 0 k ∙ ap (λ (v : ℕ). take (low n) t ++ v ∷ r) cs in
-      let whole : W ≡ 0 ∷ 0x3FF ∷ 0x3FF ∷ (map word (body p) ++ check (map word (body p)) ∷ r) =
-      (λ i. eqb-true x 0 (f .0) i ∷ eqb-true y 0x3FF (f2 .0) i ∷ eqb-true z 0x3FF (f2 .1) i ∷ a ∷ b ∷ n ∷ sp i)
-      ∙ ap (λ (v : List ℕ). 0 ∷ 0x3FF ∷ 0x3FF ∷ (v ++ check (map word (body p)) ∷ r)) (sym head) in
-      let rest : drop (low n + 7) W ≡ r = rw (add-seven (low n)) in (
-        whole
-            ∙ ap (λ (v : List ℕ). 0 ∷ 0x3FF ∷ 0x3FF ∷ v) (sym (append-assoc (map word (body p)) (check (map word (body p)) ∷ []) r))
-            ∙ ap (λ (v : List ℕ). words p ++ v) (sym rest),
-        record {
-          did = omega arith;
-          sdid = omega arith;
-          many = let m : low n < 256 = omega arith in omega arith;
-          user = low-bytes (take (low n) t);
-          line = allowed-none sys;
-          flags = omega arith;
-          mark = refl;
-        },
-      )
+-- words behind the flag that show what a packet's words are, are those of the packet
+pub words-made : (p : Packet) (n : ℕ) (s : List ℕ) → flagged s ≡ true → n + 7 ≤ length s → coded p ≡ take (n + 3) (drop 3 s)
+    → checkOf p ≡ getD s (n + 6) 0 → s ≡ words p ++ drop (n + 7) s
+unfolding words
+words-made p n [] f l c k = absurd (omega arith)
+words-made p n (x ∷ []) f l c k = absurd (omega arith)
+words-made p n (x ∷ y ∷ []) f l c k = absurd (omega arith)
+words-made p n (x ∷ y ∷ z ∷ t) f l c k =
+    let s : List ℕ = x ∷ y ∷ z ∷ t in
+    let f1 = both (eqb x 0) (eqb y 0x3FF && eqb z 0x3FF) f in
+    let f2 = both (eqb y 0x3FF) (eqb z 0x3FF) (f1 .1) in
+    let six : 3 + (n + 3) ≡ n + 6 = omega arith in
+    let seven : 3 + suc (n + 3) ≡ n + 7 = omega arith in
+    let cs : getD t (n + 3) 0 ≡ checkOf p = getD-drop 3 s (n + 3) 0 ∙ ap (λ (m : ℕ). getD s m 0) six ∙ sym k in
+    let rest : drop (suc (n + 3)) t ≡ drop (n + 7) s = drop-drop (suc (n + 3)) 3 s ∙ ap (λ (m : ℕ). drop m s) seven in
+    let sp : t ≡ coded p ++ checkOf p ∷ drop (n + 7) s = split-at t (n + 3) 0 (omega arith) ∙ (λ i. sym c i ++ cs i ∷ rest i) in
+    (λ i. eqb-true x 0 (f1 .0) i ∷ eqb-true y 0x3FF (f2 .0) i ∷ eqb-true z 0x3FF (f2 .1) i ∷ sp i)
+    ∙ ap (λ (v : List ℕ). 0x000 ∷ 0x3FF ∷ 0x3FF ∷ v) (sym (append-assoc (coded p) (checkOf p ∷ []) (drop (n + 7) s)))
+
+-- what the words of a packet show, where all of them are there: their low bytes, and so a sound packet
+module _ (s : List ℕ) (long : dcIn s + 7 ≤ length s) where
+  pub body-shown : body (packetOfWords s) ≡ map low (take (dcIn s + 3) (drop 3 s))
+  body-shown =
+      let u : List ℕ = take (dcIn s) (drop 6 s) in
+      let l : length (map low u) ≡ dcIn s =
+      length-map u low ∙ length-take-le (dcIn s) (drop 6 s) (let m = length-drop 6 s in omega arith) in
+      ap (λ (n : ℕ). low (getD s 3 0) ∷ low (getD s 4 0) ∷ n ∷ map low u) l ∙ ap (map low) (sym (front-shown (dcIn s) s (omega arith)))
+
+  pub shown-sound : (y : System) → Sound y (packetOfWords s)
+  shown-sound y =
+      record {
+        did = omega arith;
+        sdid = omega arith;
+        many =
+            let e : length (packetOfWords s .user) ≡ dcIn s = ap (λ (b : List ℕ). getD b 2 0) body-shown ∙ third in
+            let m : dcIn s < 256 = omega arith in
+            omega arith;
+        user = low-bytes (take (dcIn s) (drop 6 s));
+        line = allowed-none y;
+        flags = omega arith;
+        mark = refl;
+      }
     where
-      swap : (m : ℕ) → 6 + m ≡ m + 6
-      swap m = omega arith
+      third : getD (map low (take (dcIn s + 3) (drop 3 s))) 2 0 ≡ dcIn s
+      third = rw (front-shown (dcIn s) s (omega arith))
 
 -- a front without a fault is a sound packet's words
 pub words-uncut : (sys : System) (s : List ℕ) → Unit {0} → wordRow .fault s ≡ 0
     → (x : Packet) × (bare x ≡ wordRow .packet s) × (s ≡ words x ++ wordRow .rest s) × Sound sys x
-unfolding wordRow wordsFault
-words-uncut sys [] h q = never (cc)
-words-uncut sys (a ∷ []) h q = never (cc)
-words-uncut sys (a ∷ b ∷ []) h q = never (cc)
-words-uncut sys (a ∷ b ∷ c ∷ []) h q = never (cc)
-words-uncut sys (a ∷ b ∷ c ∷ d ∷ []) h q = never (cc)
-words-uncut sys (a ∷ b ∷ c ∷ d ∷ e ∷ []) h q = never (cc)
-words-uncut sys (x ∷ y ∷ z ∷ a ∷ b ∷ n ∷ t) h q =
-    let f = fine-words x y z a b n t sys q in
-    (packetOfWords (x ∷ y ∷ z ∷ a ∷ b ∷ n ∷ t), refl, f .0, f .1)
+unfolding wordRow wordsFault coded checkOf
+words-uncut sys s h q =
+    let t : List ℕ = take (dcIn s + 3) (drop 3 s) in
+    let w =
+    passed 9 (ltb (length s) 7) (flagged s) (areWords (take 3 (drop 3 s))) (ltb (length s) (dcIn s + 7)) (areWords (take (dcIn s) (drop 6 s)))
+    (eqb (getD s (dcIn s + 6) 0) (check t)) q in
+    let long : dcIn s + 7 ≤ length s = ltb-false (length s) (dcIn s + 7) (w .3) in
+    let right : areWords t ≡ true =
+    ap areWords (front-split (dcIn s) s) ∙ words-append (take 3 (drop 3 s)) (take (dcIn s) (drop 6 s)) ∙ rw (w .2, w .4) in
+    let is : map word (body (packetOfWords s)) ≡ t = ap (map word) (body-shown s long) ∙ words-map t right in
+    let cs : check (map word (body (packetOfWords s))) ≡ getD s (dcIn s + 6) 0 =
+    ap check is ∙ sym (eqb-true (getD s (dcIn s + 6) 0) (check t) (w .5)) in
+    (packetOfWords s, refl, words-made (packetOfWords s) (dcIn s) s (w .1) long is cs, shown-sound s long sys)
 
 -- ---- the words of a list
 
@@ -277,13 +295,59 @@ words-uncut sys (x ∷ y ∷ z ∷ a ∷ b ∷ n ∷ t) h q =
 abbrev pub bares : List Packet → List Packet
 bares ps = map bare ps
 
--- what is laid is read: with room for its packets
-read-within : (y : System) (ps : List Packet) (left : ℕ) → All (Sound y) ps → length ps ≤ left
-    → packetsIn wordRow left 0 (allWords ps) ≡ listed (bares ps)
-unfolding wordRow
-read-within y ps left g few =
-    ap (packetsIn wordRow left 0) (sym (append-nil (allWords ps)))
-    ∙ row-read wordRow words bare (Sound y) Anything
+pub few-words : (ps : List Packet) → length ps ≤ length (allWords ps)
+few-words [] = omega arith
+few-words (p ∷ ps) = let k = few-words ps in let l = length-append (words p) (allWords ps) in let m = packet-words p in omega arith
+
+bare-words : (ps : List Packet) → allWords ps ≡ allWords (bares ps)
+unfolding words coded checkOf
+bare-words [] = refl
+bare-words (p ∷ ps) = ap (λ (t : List ℕ). words p ++ t) (bare-words ps)
+
+-- the words ws are those of the packets ps, each of them fine
+pub record WordsBy (Fine : Packet → Type 0) (ws : List ℕ) (ps : List Packet) : Type 0 where
+  pub whole : ws ≡ allWords ps
+  pub fine : All Fine ps
+
+-- packets back to back in words, whatever their tests are: what is laid is read, and what is read was laid
+module _ (row : Row ℕ) (Fine : Packet → Type 0) where
+  pub row-words-read : Cut row words bare Fine Anything → row .ends [] ≡ true → (ps : List Packet) → All Fine ps
+      → packetsIn row (length (allWords ps)) 0 (allWords ps) ≡ listed (bares ps)
+  row-words-read c e ps g =
+      ap (packetsIn row (length (allWords ps)) 0) (sym (append-nil (allWords ps)))
+      ∙ row-read row words bare Fine Anything c [] tt e ps (length (allWords ps)) 0 g (few-words ps)
+
+  module _ (u : Uncut row words bare Fine Anything) where
+    pub row-words-laid : ((t : List ℕ) → row .ends t ≡ true → noWords t ≡ true) → ((p : Packet) → Fine p → Fine (bare p))
+        → (ws : List ℕ) (ps : List Packet) → packetsIn row (length ws) 0 ws ≡ listed ps → WordsBy Fine ws ps
+    row-words-laid n b ws ps e =
+        let l = row-laid row words bare Fine Anything (λ x r f. tt) u (length ws) 0 ws ps tt e in
+        subst (WordsBy Fine ws) (l .packets)
+        (record {
+          whole = l .whole ∙ nothing (allWords (l .items)) (l .tail) (n (l .tail) (l .ends)) ∙ bare-words (l .items);
+          fine = all-bare (l .items) (l .good);
+        })
+      where
+        nothing : (ws t : List ℕ) → noWords t ≡ true → ws ++ t ≡ ws
+        nothing ws [] e = append-nil ws
+        nothing ws (x ∷ t) e = never (cc)
+
+        all-bare : (ps : List Packet) → All Fine ps → All Fine (bares ps)
+        all-bare [] g = none
+        all-bare (p ∷ ps) (one g gs) = one (b p g) (all-bare ps gs)
+
+    -- a packet is never empty
+    pub row-words-shrink : (s : List ℕ) → row .fault s ≡ 0 → length (row .rest s) < length s
+    row-words-shrink s e =
+        let w = u s tt e in
+        let k = packet-words (w .0) in
+        let l : length s ≡ length (words (w .0)) + length (row .rest s) = ap length (w .2) ∙ length-append (words (w .0)) (row .rest s) in
+        omega arith
+
+pub words-read : (y : System) (ps : List Packet) → All (Sound y) ps → packetsOfWords (allWords ps) ≡ listed (bares ps)
+unfolding packetsOfWords wordRow
+words-read y ps g =
+    row-words-read wordRow (Sound y)
     (record {
       follows = λ x r w. tt;
       goes = λ x r w. goes-on y x r w;
@@ -291,46 +355,18 @@ read-within y ps left g few =
       packet = λ x r w z. packet-back y x r w;
       rest = λ x r w z. rest-back y x r w;
     })
-    [] tt refl ps left 0 g few
-
-few-words : (ps : List Packet) → length ps ≤ length (allWords ps)
-few-words [] = omega arith
-few-words (p ∷ ps) = let k = few-words ps in let l = length-append (words p) (allWords ps) in let m = packet-words p in omega arith
-
-pub words-read : (y : System) (ps : List Packet) → All (Sound y) ps → packetsOfWords (allWords ps) ≡ listed (bares ps)
-unfolding packetsOfWords
-words-read y ps g = read-within y ps (length (allWords ps)) g (few-words ps)
-
-bare-words : (ps : List Packet) → allWords ps ≡ allWords (bares ps)
-unfolding words coded checkOf
-bare-words [] = refl
-bare-words (p ∷ ps) = ap (λ (t : List ℕ). words p ++ t) (bare-words ps)
+    refl ps g
 
 bare-one : (y : System) (p : Packet) → Sound y p → Sound y (bare p)
 bare-one y p g = record { did = g .did; sdid = g .sdid; many = g .many; user = g .user; line = allowed-none y; flags = omega arith; mark = g .mark }
 
-bare-sound : (y : System) (ps : List Packet) → All (Sound y) ps → All (Sound y) (bares ps)
-bare-sound y [] g = none
-bare-sound y (p ∷ ps) (one g gs) = one (bare-one y p g) (bare-sound y ps gs)
-
 -- what is read was laid, whatever the system, since a packet that shows no location is on no line
-pub record WordsOf (y : System) (ws : List ℕ) (ps : List Packet) : Type 0 where
-  pub whole : ws ≡ allWords ps
-  pub sound : All (Sound y) ps
+abbrev pub WordsOf : System → List ℕ → List Packet → Type 0
+WordsOf y ws ps = WordsBy (Sound y) ws ps
 
 pub words-laid : (y : System) (ws : List ℕ) (ps : List Packet) → packetsOfWords ws ≡ listed ps → WordsOf y ws ps
 unfolding packetsOfWords wordRow
-words-laid y ws ps e =
-    let l = row-laid wordRow words bare (Sound y) Anything (λ x r b. tt) (words-uncut y) (length ws) 0 ws ps tt e in
-    subst (WordsOf y ws) (l .packets)
-    (record {
-      whole = l .whole ∙ nothing (allWords (l .items)) (l .tail) (l .ends) ∙ bare-words (l .items);
-      sound = bare-sound y (l .items) (l .good);
-    })
-  where
-    nothing : (ws t : List ℕ) → noWords t ≡ true → ws ++ t ≡ ws
-    nothing ws [] e = append-nil ws
-    nothing ws (x ∷ t) e = never (cc)
+words-laid y ws ps e = row-words-laid wordRow (Sound y) (words-uncut y) (λ t z. z) (bare-one y) ws ps e
 
 -- from one list only, but for the locations, which section B has
 pub words-unique : (y : System) (ps qs : List Packet) → All (Sound y) ps → All (Sound y) qs → allWords ps ≡ allWords qs → bares ps ≡ bares qs
@@ -346,45 +382,63 @@ words-room (p ∷ ps) = length-append (words p) (allWords ps) ∙ ap₂ (λ (a b
 
 -- ---- refusals
 
+-- the tests of a packet give 7, 8, 9 or what the last of them gives; without a fault all its words are there
+module _ (right : List ℕ → Bool) (last : ℕ) (s : List ℕ) where
+  abbrev flag : Bool
+  flag = ltb (length s) 7 || not (flagged s)
+
+  abbrev head : Bool
+  head = not (right (take 3 (drop 3 s)))
+
+  abbrev size : Bool
+  size = ltb (length s) (dcIn s + 7)
+
+  abbrev user : Bool
+  user = not (right (take (dcIn s) (drop 6 s)))
+
+  pub fault-one-of : (P : ℕ → Type 0) → P 7 → P 8 → P 9 → ((last ≡ 0 → ⊥) → P last) → (faultBy right last s ≡ 0 → ⊥) → P (faultBy right last s)
+  fault-one-of P seven eight nine other h = go flag head size user h
+    where
+      go : (a b c d : Bool) → (cond a 7 (cond b 8 (cond c 9 (cond d 8 last))) ≡ 0 → ⊥) → P (cond a 7 (cond b 8 (cond c 9 (cond d 8 last))))
+      go true b c d h = seven
+      go false true c d h = eight
+      go false false true d h = nine
+      go false false false true h = eight
+      go false false false false h = other h
+
+  pub fault-long-by : faultBy right last s ≡ 0 → dcIn s + 7 ≤ length s
+  fault-long-by e = ltb-false (length s) (dcIn s + 7) (go flag head size (cond user 8 last) e)
+    where
+      go : (a b c : Bool) (n : ℕ) → _≡_ {A = ℕ} (cond a 7 (cond b 8 (cond c 9 n))) 0 → c ≡ false
+      go true b c n e = absurd (omega arith)
+      go false true c n e = absurd (omega arith)
+      go false false true n e = absurd (omega arith)
+      go false false false n e = refl
+
 abbrev pub WordFault : ℕ → Type 0
 WordFault n = (7 ≤ n) × (n ≤ 10)
 
 fault-range : (s : List ℕ) → (wordsFault s ≡ 0 → ⊥) → WordFault (wordsFault s)
 unfolding wordsFault
-fault-range s h =
-    go (ltb (length s) 7 || not (flagged s)) (not (areWords (take 3 (drop 3 s)))) (ltb (length s) (dcIn s + 7))
-    (not (areWords (take (dcIn s) (drop 6 s)))) (not (eqb (getD s (dcIn s + 6) 0) (check (take (dcIn s + 3) (drop 3 s))))) h
+fault-range s h = fault-one-of areWords _ s WordFault (omega arith) (omega arith) (omega arith) (go wrong) h
   where
-    go : (a b c d e : Bool) → (_≡_ {A = ℕ} (cond a 7 (cond b 8 (cond c 9 (cond d 8 (cond e 10 0))))) 0 → ⊥)
-        → WordFault (cond a 7 (cond b 8 (cond c 9 (cond d 8 (cond e 10 0)))))
-    go true b c d e h = omega arith
-    go false true c d e h = omega arith
-    go false false true d e h = omega arith
-    go false false false true e h = omega arith
-    go false false false false true h = omega arith
-    go false false false false false h = absurd (h refl)
+    wrong : Bool
+    wrong = not (eqb (getD s (dcIn s + 6) 0) (check (take (dcIn s + 3) (drop 3 s))))
+
+    go : (t : Bool) → (_≡_ {A = ℕ} (cond t 10 0) 0 → ⊥) → WordFault (cond t 10 0)
+    go true h = omega arith
+    go false h = absurd (h refl)
 
 -- a packet without a fault has all its words
 pub fault-long : (s : List ℕ) → wordsFault s ≡ 0 → dcIn s + 7 ≤ length s
 unfolding wordsFault
-fault-long s e =
-    ltb-false (length s) (dcIn s + 7)
-    (go (ltb (length s) 7 || not (flagged s)) (not (areWords (take 3 (drop 3 s)))) (ltb (length s) (dcIn s + 7))
-    (cond (not (areWords (take (dcIn s) (drop 6 s)))) 8
-    (cond (not (eqb (getD s (dcIn s + 6) 0) (check (take (dcIn s + 3) (drop 3 s))))) 10 0)) e)
-  where
-    go : (a b c : Bool) (n : ℕ) → _≡_ {A = ℕ} (cond a 7 (cond b 8 (cond c 9 n))) 0 → c ≡ false
-    go true b c n e = absurd (omega arith)
-    go false true c n e = absurd (omega arith)
-    go false false true n e = absurd (omega arith)
-    go false false false n e = refl
+fault-long s e = fault-long-by areWords _ s e
 
 words-shrink : (s : List ℕ) → wordRow .fault s ≡ 0 → length (wordRow .rest s) < length s
-words-shrink s e =
-    let w = words-uncut (record { sequences = 0; last = 0 }) s tt e in
-    let k = packet-words (w .0) in
-    let l : length s ≡ length (words (w .0)) + length (wordRow .rest s) = ap length (w .2) ∙ length-append (words (w .0)) (wordRow .rest s) in
-    omega arith
+words-shrink s e = row-words-shrink wordRow (Sound nowhere) (words-uncut nowhere) s e
+  where
+    nowhere : System
+    nowhere = record { sequences = 0; last = 0 }
 
 -- how many packets section C may have does not matter once they are enough
 pub words-enough : (f g i : ℕ) (s : List ℕ) → length s ≤ f → length s ≤ g → packetsIn wordRow f i s ≡ packetsIn wordRow g i s

@@ -4,6 +4,7 @@
 -- Assumes nothing.
 use Prim.Native.Nat.{ℕ, zero, suc, _+_, _-_, _*_, _/_, _≤_, _<_}
 use mathlib.Core.Path.{_≡_, refl, sym, ap, ap₂, _∙_}
+use mathlib.Core.Logic.{_⊎_, inl, inr}
 use mathlib.Core.Bool.{Bool, true, false, cond, not, _&&_}
 use mathlib.Core.List.{List, [], _∷_}
 use native.Mathlib.Nat.{zero-add}
@@ -12,14 +13,15 @@ use native.Mathlib.Omega.{arith}
 use lib.Dec.{eqb, ltb, leb, eqb·suc-suc, eqb·zero-suc}
 use lib.ListN.{length, getD, take, drop, length-drop}
 use lib.Seq.{length-take-le, drop-cons}
-use borrow.Author.Tests.{leb-true, not-true, not-false, lt-ltb, le-ltb, le-leb, lt-leb, eq-eqb, ne-eqb}
+use borrow.Author.Tests.{eqb-true, eqb-false, leb-true, not-true, not-false, lt-ltb, le-ltb, le-leb, lt-leb, eq-eqb, ne-eqb}
 use Rattle.rules.specs.Systems.{System, system, stands, allowed}
 use Rattle.rules.specs.Packet.{Packet}
 use Rattle.rules.specs.Danc.{bytesOf}
 use Rattle.rules.specs.Packing1.{packsOf}
 use Rattle.rules.specs.Sheet.{limit, systemIn, countIn, locationsIn, wordCountIn, wordsIn}
 use Rattle.rules.specs.Numbers.{Outcome, listed, refused, unless, andThen}
-use Rattle.rules.specs.Laying.{wordAt, fromPacket, packetsOfWords, shaped, unlessAt, locationStands, locationAllowed, located, listTests, sheetTests}
+use Rattle.rules.specs.Laying.{wordAt, fromPacket, packetsOfWords, shaped, unlessAt, locationStands, locationAllowed, located}
+use Rattle.rules.specs.Laying.{listTestsBy, listTests, sheetTests}
 use Rattle.rules.specs.Lister.{testedOf, testedWith, testedIn, tested}
 use Rattle.rules.specs.declared.Tested.{Tested}
 use Rattle.rules.proofs.Basics.{both, second-false, rest-part}
@@ -111,23 +113,30 @@ module _ (y : System) (p : ℕ) (ls : List ℕ) (h : length ls ≡ 2 * p) (o : O
   all-stand : inFront (locationStands y) ls ≡ p → locationTests y ls o ≡ unlessAt 20 (locationAllowed y) 0 ls o
   all-stand e = rw (count-at 6 (locationStands y) 0 p ls _ h, eq-eqb (inFront (locationStands y) ls) p e)
 
+  -- all stand, and one is on a line that is not allowed
+  allowed-past : inFront (locationStands y) ls ≡ p → (k : ℕ) → k ≡ inFront (inPlace y) ls → (k ≡ p → ⊥) → locationTests y ls o ≡ refused 20 k
+  allowed-past z k f g =
+      let q : k ≡ inFront (locationAllowed y) ls = f ∙ front-same (locationStands y) (inPlace y) (locationAllowed y) flags p ls h z in
+      rw (all-stand z, count-at 20 (locationAllowed y) 0 p ls o h, zero-add (inFront (locationAllowed y) ls), ← q, ne-eqb k p g)
+    where
+      flags : (l m : ℕ) → locationStands y l m ≡ true → inPlace y l m ≡ allowed y l
+      flags l m e = rw (both (stands y l) (ltb m 4) e .1)
+
+  -- one is out of range
+  range-past : (n : ℕ) → n ≡ inFront (locationStands y) ls → (n ≡ p → ⊥) → locationTests y ls o ≡ refused 6 n
+  range-past n e d = rw (count-at 6 (locationStands y) 0 p ls _ h, zero-add (inFront (locationStands y) ls), ← e, ne-eqb n p d)
+
   module _ (sys : ℕ) (ws : List ℕ) (n : ℕ) (e : n ≡ inFront (locationStands y) ls) where
     -- "line or flags out of range"
     pub out-of-range : (n ≡ p → ⊥) → testedOf 0 (refused 6 n) ≡ testedIn sys ws (locationTests y ls o)
     unfolding wordAt
-    out-of-range d = rw (count-at 6 (locationStands y) 0 p ls _ h, zero-add (inFront (locationStands y) ls), ← e, ne-eqb n p d)
+    out-of-range d = rw (range-past n e d)
 
     -- all stand, and the k-th is the first on a line that is not allowed
     pub not-allowed : n ≡ p → (k : ℕ) → k ≡ inFront (inPlace y) ls → (k ≡ p → ⊥)
         → testedOf 0 (refused 20 k) ≡ testedIn sys ws (locationTests y ls o)
     unfolding wordAt
-    not-allowed d k f g =
-        let z : inFront (locationStands y) ls ≡ p = sym e ∙ d in
-        let q : k ≡ inFront (locationAllowed y) ls = f ∙ front-same (locationStands y) (inPlace y) (locationAllowed y) flags p ls h z in
-        rw (all-stand z, count-at 20 (locationAllowed y) 0 p ls o h, zero-add (inFront (locationAllowed y) ls), ← q, ne-eqb k p g)
-      where
-        flags : (l m : ℕ) → locationStands y l m ≡ true → inPlace y l m ≡ allowed y l
-        flags l m e = rw (both (stands y l) (ltb m 4) e .1)
+    not-allowed d k f g = rw (allowed-past (sym e ∙ d) k f g)
 
   -- all are in place
   pub all-in-place : (k : ℕ) → k ≡ inFront (inPlace y) ls → k ≡ p → locationTests y ls o ≡ o
@@ -141,6 +150,17 @@ module _ (y : System) (p : ℕ) (ls : List ℕ) (h : length ls ≡ 2 * p) (o : O
     where
       standing : (l m : ℕ) → inPlace y l m ≡ true → locationStands y l m ≡ true
       standing l m q = let w = both (ltb m 4) (allowed y l) q in rw (allowed-stands y l (w .1), w .0)
+
+-- of P locations of which the k-th is the first that is not in its place, one is refused with 6 or 20, whatever would follow
+pub misplaced : (y : System) (p : ℕ) (ls : List ℕ) → length ls ≡ 2 * p → (k : ℕ) → k ≡ inFront (inPlace y) ls → (k ≡ p → ⊥)
+    → (n i : ℕ) × ((n ≡ 6) ⊎ (n ≡ 20)) × ((o : Outcome) → locationTests y ls o ≡ refused n i)
+misplaced y p ls h k e d = go (eqb (inFront (locationStands y) ls) p) refl
+  where
+    go : (t : Bool) → eqb (inFront (locationStands y) ls) p ≡ t
+        → (n i : ℕ) × ((n ≡ 6) ⊎ (n ≡ 20)) × ((o : Outcome) → locationTests y ls o ≡ refused n i)
+    go true q = (20, k, inr refl, λ o. allowed-past y p ls h o (eqb-true (inFront (locationStands y) ls) p q) k e d)
+    go false q =
+        (6, inFront (locationStands y) ls, inl refl, λ o. range-past y p ls h o _ refl (eqb-false (inFront (locationStands y) ls) p q))
 
 -- the pair at k
 drop-pair : (k : ℕ) (ls : List ℕ) → 2 * k + 1 < length ls
@@ -228,11 +248,11 @@ located-figures sys (l ∷ f ∷ ls) [] h = absurd (omega arith)
 located-figures sys (l ∷ f ∷ ls) (p ∷ ps) h = ap (plus p) (located-figures sys ls ps (omega arith))
 
 -- "Packet k belongs to location k", where there are as many
-abbrev paired : List ℕ → List Packet → Outcome
+abbrev pub paired : List ℕ → List Packet → Outcome
 paired s ps = unless 11 (eqb (length ps) (countIn s)) (listed (located (locationsIn s) ps))
 
 -- what the code lends as locations, by a sheet's count
-abbrev lentLocations : List ℕ → ℕ → List ℕ
+abbrev pub lentLocations : List ℕ → ℕ → List ℕ
 lentLocations s p = take (3 + 2 * p - 3) (drop 3 s)
 
 pub pairs : (s : List ℕ) (p : ℕ) → p ≡ countIn s → shaped s ≡ true → length (lentLocations s p) ≡ 2 * p
@@ -241,41 +261,57 @@ pairs s p is sh =
     let m = shaped-long s sh in
     length-take-le (3 + 2 * p - 3) (drop 3 s) (omega arith) ∙ (omega arith)
 
--- a sheet's count, as the code has it
-module _ (sys : ℕ) (y : System) (s : List ℕ) (p : ℕ) (is : p ≡ countIn s) where
+-- a sheet's count, as the code has it: what it lends as locations, and as words
+module _ (s : List ℕ) (p : ℕ) (is : p ≡ countIn s) where
+  locations-are : lentLocations s p ≡ locationsIn s
+  locations-are = let e : 3 + 2 * p - 3 ≡ 2 * countIn s = omega arith in ap (λ (n : ℕ). take n (drop 3 s)) e
+
+  pub words-are : take (length s - (3 + 2 * p + 1)) (drop (3 + 2 * p + 1) s) ≡ wordsIn s
+  words-are = let e : 3 + 2 * p + 1 ≡ 4 + 2 * countIn s = omega arith in rest-part (3 + 2 * p + 1) s ∙ ap (λ (n : ℕ). drop n s) e
+
+-- with any reader of its words
+module _ (packets : List ℕ → Outcome) (y : System) (s : List ℕ) (p : ℕ) (is : p ≡ countIn s) where
   -- "laying: P over [1,275]"
+  pub many-outcome : limit < p → listTestsBy packets y s ≡ refused 5 0
+  many-outcome h = rw (lt-leb (countIn s) limit (omega arith))
+
+  -- the locations, then the words
+  pub from-six-by : p ≤ limit → listTestsBy packets y s ≡ locationTests y (lentLocations s p) (andThen (packets (wordsIn s)) (paired s))
+  from-six-by few = rw (le-leb (countIn s) limit (omega arith), locations-are s p is)
+
+  pub from-words-by : p ≤ limit → shaped s ≡ true → (k : ℕ) → k ≡ inFront (inPlace y) (lentLocations s p) → k ≡ p
+      → listTestsBy packets y s ≡ andThen (packets (wordsIn s)) (paired s)
+  from-words-by few sh k in-place all = from-six-by few ∙ all-in-place y p (lentLocations s p) (pairs s p is sh) _ k in-place all
+
+-- the lister's
+module _ (sys : ℕ) (y : System) (s : List ℕ) (p : ℕ) (is : p ≡ countIn s) where
   pub too-many : limit < p → testedOf 0 (refused 5 0) ≡ testedIn sys (wordsIn s) (listTests y s)
   unfolding listTests wordAt
-  too-many h = rw (lt-leb (countIn s) limit (omega arith))
+  too-many h = rw (many-outcome packetsOfWords y s p is h)
 
   abbrev ls : List ℕ
   ls = lentLocations s p
 
-  locations-are : ls ≡ locationsIn s
-  locations-are = let e : 3 + 2 * p - 3 ≡ 2 * countIn s = omega arith in ap (λ (n : ℕ). take n (drop 3 s)) e
-
   module _ (sh : shaped s ≡ true) (few : p ≤ limit) where
-    from-six : listTests y s ≡ locationTests y ls (andThen (packetsOfWords (wordsIn s)) (paired s))
-    unfolding listTests
-    from-six = rw (le-leb (countIn s) limit (omega arith), locations-are)
-
     -- a location at fault
     pub location-refused : (t : Tested)
         → ((sys : ℕ) (ws : List ℕ) (o : Outcome) → t ≡ testedIn sys ws (locationTests y ls o))
         → t ≡ testedIn sys (wordsIn s) (listTests y s)
-    location-refused t h = h sys (wordsIn s) _ ∙ ap (testedIn sys (wordsIn s)) (sym from-six)
+    unfolding listTests
+    location-refused t h = h sys (wordsIn s) _ ∙ ap (testedIn sys (wordsIn s)) (sym (from-six-by packetsOfWords y s p is few))
 
-    -- what the code lends as words, and what it found in them
+    -- what the code found in the words that it lends
     module _ (k : ℕ) (in-place : k ≡ inFront (inPlace y) ls) (all : k ≡ p) (t : Tested)
         (found : t ≡ testedOf sys (packetsOfWords (take (length s - (3 + 2 * p + 1)) (drop (3 + 2 * p + 1) s)))) where
       lent : take (length s - (3 + 2 * p + 1)) (drop (3 + 2 * p + 1) s) ≡ wordsIn s
-      lent = let e : 3 + 2 * p + 1 ≡ 4 + 2 * countIn s = omega arith in rest-part (3 + 2 * p + 1) s ∙ ap (λ (n : ℕ). drop n s) e
+      lent = words-are s p is
 
       found-is : t ≡ testedOf sys (packetsOfWords (wordsIn s))
       found-is = found ∙ ap (λ (ws : List ℕ). testedOf sys (packetsOfWords ws)) lent
 
       from-words : listTests y s ≡ andThen (packetsOfWords (wordsIn s)) (paired s)
-      from-words = from-six ∙ all-in-place y p ls (pairs s p is sh) _ k in-place all
+      unfolding listTests
+      from-words = from-words-by packetsOfWords y s p is few sh k in-place all
 
       -- a packet at fault, and its word
       pub packet-refused : (t .number ≡ 0 → ⊥) → (w : ℕ)
@@ -320,7 +356,7 @@ module _ (sys : ℕ) (y : System) (s : List ℕ) (p : ℕ) (is : p ≡ countIn s
           let l = list-of z in
           let n : length (l .0) ≡ p = ap (λ (x : Tested). x .packets) (sym (l .2)) ∙ h in
           rw (from-words, l .1, eq-eqb (length (l .0)) (countIn s) (n ∙ is))
-          (l .2 ∙ sym (located-figures sys (locationsIn s) (l .0) (ap length (sym locations-are) ∙ pairs s p is sh ∙ ap (λ (m : ℕ). 2 * m) (sym n))))
+          (l .2 ∙ sym (located-figures sys (locationsIn s) (l .0) (ap length (sym (locations-are s p is)) ∙ pairs s p is sh ∙ ap (λ (m : ℕ). 2 * m) (sym n))))
 
 -- ---- the sheet
 

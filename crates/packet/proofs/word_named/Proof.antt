@@ -5,7 +5,7 @@ use mathlib.Core.Path.{_≡_, refl, _∙_}
 use native.Mathlib.Omega.{arith}
 use lib.ListN.{length, drop}
 use borrow.Author.Needs.{needs}
-use Rattle.rules.specs.Laying.{fromPacket}
+use Rattle.rules.specs.Laying.{wordAt, fromPacket}
 use Rattle.packet.proofs.Laws.{behind-next, behind-all}
 use Rattle.packet.proofs.word_named.Statement.{statement}
 use Rattle.packet.proofs.word_named.Tie as tie
@@ -70,7 +70,7 @@ returns c =
     let d = c .before .before .before in
     let none = c .before .before .loop-test .left in
     let a = d .before .before .args in
-    c .word-at .ensures ∙ behind-all (a .ws .now) (a .number) (d .loop .at) (d .loop .left) (a .place) (omega arith) (d .loop .inv .1)
+    c .word-at .ensures ∙ behind-all (wordAt (a .number)) (a .ws .now) (d .loop .at) (d .loop .left) (a .place) (omega arith) (d .loop .inv .1)
 
 pub word-named-spec : {M : Type 1} → statement M
 word-named-spec =
