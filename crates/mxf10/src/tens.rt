@@ -34,6 +34,7 @@ pub fn pack(ws: &[u16], out: &mut [u8])
     }
     if i + 2 == ws.len() {
         put_three(ws[i], ws[i + 1], 0, out, o);
+        return;
     }
     if i + 1 == ws.len() {
         put_three(ws[i], 0, 0, out, o);
@@ -76,6 +77,7 @@ pub fn unpack(s: &[u8], out: &mut [u16])
     if i + 2 == out.len() {
         out[i] = first(s[o], s[o + 1]);
         out[i + 1] = second(s[o + 1], s[o + 2]);
+        return;
     }
     if i + 1 == out.len() {
         out[i] = first(s[o], s[o + 1]);
