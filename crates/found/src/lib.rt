@@ -1,6 +1,6 @@
 // The tests of a sheet as found (document 02, A13): the lister's, "but .. 8 only for a word over 3FFh, CS too, and never 10". What each function
 // gives is a definition of the crate rules.
-ghost use Prim.Native.Nat.{_+_};
+ghost use Prim.Native.Nat.{_+_, _%_};
 ghost use mathlib.Core.Path.{_≡_};
 ghost use mathlib.Core.Bool.{false, true};
 ghost use lib.Dec.{eqb};
@@ -54,14 +54,21 @@ fn are_ten(ws: &[u16]) -> bool
     ok
 }
 
-// The whole test of the packet that the words begin with, without the number of its fault. "DC's low byte still gives the length".
+// How many words a packet with this DC takes. "DC's low byte still gives the length", whatever stands above it (document 02, A13).
+fn size_by(dc: u16) -> usize
+    ensures { λ r. ⌜ r ≡ dc % 256 + 7 ⌝ }
+{
+    low_byte(dc) + 7
+}
+
+// The whole test of the packet that the words begin with, without the number of its fault.
 fn is_found(ws: &[u16]) -> bool
     ensures { λ r. ⌜ r ≡ eqb (foundFault (now (ws .entry))) 0 ⌝ }
 {
     if !packet::is_flagged(ws) {
         return false;
     }
-    let end = low_byte(ws[5]) + 7;
+    let end = size_by(ws[5]);
     if ws.len() < end {
         return false;
     }
@@ -94,7 +101,7 @@ fn fault_of(ws: &[u16]) -> u64
     if over_word(ws) < 6 {
         return 8;
     }
-    if ws.len() < low_byte(ws[5]) + 7 {
+    if ws.len() < size_by(ws[5]) {
         return 9;
     }
     8
@@ -107,7 +114,7 @@ fn packets(ws: &[u16]) -> Counted
     let mut at = 0;
     let mut k: u64 = 0;
     while is_found(&ws[at..]) {
-        at += low_byte(ws[at + 5]) + 7;
+        at += size_by(ws[at + 5]);
         k += 1;
     }
     if at == ws.len() {

@@ -149,7 +149,9 @@ module _ (s : List ℕ) (w : ℕ) (e : w ≡ 3 + wordsBefore (drop 3 (take (dcIn
       rw (drop-take 3 (dcIn s + 7) s, n) (take-take k (dcIn s + 4) (drop 3 s) h)
 
   pub wrong-head : w < 6 → areWords (take 3 (drop 3 s)) ≡ false
-  wrong-head h = rw (← own-part 3 (omega arith)) (each-past isWord areWords wordsBefore each-word 3 own (let k = own-long in omega arith) (omega arith))
+  wrong-head h =
+      let k = own-long in
+      rw (← own-part 3 (omega arith)) (each-past isWord areWords wordsBefore each-word 3 own (omega arith) (omega arith))
 
   pub right-head : 6 ≤ w → areWords (take 3 (drop 3 s)) ≡ true
   right-head h = rw (← own-part 3 (omega arith)) (each-before isWord areWords wordsBefore each-word 3 own (omega arith))

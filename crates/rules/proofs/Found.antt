@@ -8,6 +8,7 @@ use mathlib.Core.Path.{_≡_, refl, sym, ap, ap₂, _∙_}
 use mathlib.Core.Logic.{_⊎_, inl, inr}
 use mathlib.Core.Bool.{Bool, true, false, cond, not, _&&_, _||_, and-assoc}
 use mathlib.Core.List.{List, [], _∷_, _++_, map}
+use native.Mathlib.Nat.{zero-add}
 use native.Mathlib.Omega.{arith}
 use lib.Dec.{eqb, ltb}
 use lib.ListN.{length, getD, take, drop, length-map}
@@ -17,12 +18,12 @@ use Rattle.rules.specs.Base.{Bytes, All, none, one}
 use Rattle.rules.specs.Systems.{System, known, system, allowed}
 use Rattle.rules.specs.Packet.{Mark, sound, found, Packet, body, check, raised, codedAs, checkAs, coded, checkOf, words, Sound, asSound, Found}
 use Rattle.rules.specs.Danc.{bytesOf}
-use Rattle.rules.specs.Sheet.{limit, locations, allWords, sheetOf, systemIn}
+use Rattle.rules.specs.Sheet.{limit, locations, allWords, sheetOf, systemIn, wordsIn}
 use Rattle.rules.specs.Blocks.{areaSize}
 use Rattle.rules.specs.Packings.{isPacking}
 use Rattle.rules.specs.Numbers.{Outcome, listed, refused, also, packetsIn}
 use Rattle.rules.specs.Laying.{areWords, flagged, low, dcIn, wordsFault, packetOfWords, wordRow, packetsOfWords}
-use Rattle.rules.specs.Laying.{listTests, laying, lay, areaAfter}
+use Rattle.rules.specs.Laying.{fromPacket, listTests, laying, lay, areaAfter}
 use Rattle.rules.specs.Found.{isTen, areTen, foundFault, high, foundOfWords, foundRow, packetsFound, foundTests, SheetFound}
 use Rattle.rules.specs.Demands.{SheetOf}
 use Rattle.rules.proofs.Basics.{both, all-give}
@@ -31,7 +32,7 @@ use Rattle.rules.proofs.Rows.{row-enough, row-fault}
 use Rattle.rules.proofs.Words.{bare, bares, body-bytes, coded-low, dc-low, packet-words, few-words, words-uncut}
 use Rattle.rules.proofs.Words.{words-long, coded-taken, check-taken, rest-taken, passed, front-split, words-made, body-shown, shown-sound}
 use Rattle.rules.proofs.Words.{WordsBy, row-words-read, row-words-laid, row-words-shrink, fault-one-of, fault-long-by}
-use Rattle.rules.proofs.Sheets.{moved, Placed, Reader, SheetBy, sound-moved, system-back, shaped-back, list-placed}
+use Rattle.rules.proofs.Sheets.{moved, Placed, Reader, SheetBy, sound-moved, system-back, words-back, shaped-back, list-placed}
 use Rattle.rules.proofs.Sheets.{sheet-read-by, sheet-laid-by, sheet-unique-by, sheet-refused-by}
 
 -- ---- laying: one packet
@@ -111,16 +112,17 @@ module _ (y : System) (p : Packet) (r : List ℕ) (g : Carried y p) where
 
 -- ---- laying: a list
 
--- a refusal with 8 or 10
-pub record EightOrTen (o : Outcome) : Type 0 where
+-- a refusal with 8 or 10, at one of the packets of these words, the first of them number i: its own first fault
+pub record EightOrTen (i : ℕ) (ws : List ℕ) (o : Outcome) : Type 0 where
   pub number : ℕ
-  pub place : ℕ
-  pub refuses : o ≡ refused number place
-  pub deserved : (number ≡ 8) ⊎ (number ≡ 10)
+  pub packet : ℕ
+  pub refuses : o ≡ refused number (i + packet)
+  pub deserved : number ≡ wordsFault (fromPacket packet ws)
+  pub either : (number ≡ 8) ⊎ (number ≡ 10)
 
 -- its words are those of a sound list, or it is refused with 8 or 10
 carried-words : (y : System) (ps : List Packet) (left i : ℕ) → All (Carried y) ps → length ps ≤ left
-    → (allWords ps ≡ allWords (map asSound ps)) ⊎ EightOrTen (packetsIn wordRow left i (allWords ps))
+    → (allWords ps ≡ allWords (map asSound ps)) ⊎ EightOrTen i (allWords ps) (packetsIn wordRow left i (allWords ps))
 unfolding wordRow
 carried-words y [] left i g few = inl refl
 carried-words y (p ∷ ps) zero i g few = absurd (omega arith)
@@ -136,13 +138,22 @@ carried-words y (p ∷ ps) (suc left) i (one g gs) few =
     not-zero f (inr h) z = omega arith
 
     turn : (f : ℕ) → wordRow .fault (words p ++ r) ≡ f → ((f ≡ 0) ⊎ ((f ≡ 8) ⊎ (f ≡ 10)))
-        → ((r ≡ allWords (map asSound ps)) ⊎ EightOrTen (packetsIn wordRow left (suc i) r))
+        → ((r ≡ allWords (map asSound ps)) ⊎ EightOrTen (suc i) r (packetsIn wordRow left (suc i) r))
         → (words p ++ r ≡ allWords (map asSound (p ∷ ps)))
-        ⊎ EightOrTen (cond (eqb f 0) (also (wordRow .packet (words p ++ r)) (packetsIn wordRow left (suc i) r)) (refused f i))
-    turn f q (inr h) ih = inr (record { number = f; place = i; refuses = rw (ne-eqb f 0 (not-zero f h)); deserved = h })
+        ⊎ EightOrTen i (words p ++ r) (cond (eqb f 0) (also (wordRow .packet (words p ++ r)) (packetsIn wordRow left (suc i) r)) (refused f i))
+    turn f q (inr h) ih =
+        let e : i ≡ i + 0 = omega arith in
+        inr (record { number = f; packet = 0; refuses = rw (ne-eqb f 0 (not-zero f h)) (ap (refused f) e); deserved = sym q; either = h })
     turn f q (inl z) (inl w) = inl (ap₂ (λ (a b : List ℕ). a ++ b) (carried-fine y p r g (q ∙ z)) w)
     turn f q (inl z) (inr w) =
-        inr (record { number = w .number; place = w .place; refuses = rw (z, w .refuses); deserved = w .deserved })
+        let e : suc i + w .packet ≡ i + suc (w .packet) = omega arith in
+        inr (record {
+          number = w .number;
+          packet = suc (w .packet);
+          refuses = rw (z, w .refuses) (ap (refused (w .number)) e);
+          deserved = w .deserved ∙ ap (λ (t : List ℕ). wordsFault (fromPacket (w .packet) t)) (sym (carried-rest y p r g));
+          either = w .either;
+        })
 
 -- ---- laying: its sheet
 
@@ -160,31 +171,32 @@ all-sound y (p ∷ ps) (one g gs) = one g (all-sound y ps gs)
 
 -- the sheet of a list that is sound but for its marks is the sheet of the same list marked sound, or its tests refuse it with 8 or 10
 pub found-sheet : (sys : ℕ) (ps : List Packet) → known sys ≡ true → length ps ≤ limit → All (Carried (system sys)) ps
-    → SheetOf sys (map asSound ps) (sheetOf sys ps) ⊎ EightOrTen (listTests (system sys) (sheetOf sys ps))
+    → SheetOf sys (map asSound ps) (sheetOf sys ps) ⊎ EightOrTen 0 (allWords ps) (listTests (system sys) (sheetOf sys ps))
 unfolding listTests packetsOfWords
 found-sheet sys ps k few g = go (carried-words y ps (length (allWords ps)) 0 g (few-words ps))
   where
     y : System
     y = system sys
 
-    go : ((allWords ps ≡ allWords (map asSound ps)) ⊎ EightOrTen (packetsOfWords (allWords ps)))
-        → SheetOf sys (map asSound ps) (sheetOf sys ps) ⊎ EightOrTen (listTests y (sheetOf sys ps))
+    go : ((allWords ps ≡ allWords (map asSound ps)) ⊎ EightOrTen 0 (allWords ps) (packetsOfWords (allWords ps)))
+        → SheetOf sys (map asSound ps) (sheetOf sys ps) ⊎ EightOrTen 0 (allWords ps) (listTests y (sheetOf sys ps))
     go (inl w) =
         inl (record { known = k; few = let e = length-map ps asSound in omega arith; sound = all-sound y ps g; whole = same-sheet sys ps w })
     go (inr w) =
         let placed = all-give (Carried y) (Placed y) (λ p h. record { line = h .line; flags = h .flags }) ps g in
         inr (record {
           number = w .number;
-          place = w .place;
+          packet = w .packet;
           refuses = list-placed sys ps packetsOfWords y placed few ∙ rw (w .refuses);
           deserved = w .deserved;
+          either = w .either;
         })
 
--- a refusal of laying with 8 or 10: the number is given back, and the area is as it was
+-- a refusal of laying with 8 or 10: number and packet are given back, and the area is as it was
 pub record Undone (k : ℕ) (s area : List ℕ) : Type 0 where
-  pub outcome : EightOrTen (laying k s area)
+  pub outcome : EightOrTen 0 (wordsIn s) (laying k s area)
   pub number : lay k s area .number ≡ outcome .number
-  pub place : lay k s area .place ≡ outcome .place
+  pub place : lay k s area .place ≡ outcome .packet
   pub kept : areaAfter k s area ≡ area
 
 -- "laying an as-found packet gives 8 or 10 as its words deserve, and one without a fault is laid as sound": of the sheet of a list as found
@@ -198,16 +210,23 @@ found-laying k sys ps area p n few g own = go (found-sheet sys ps n few (all-giv
     y : System
     y = system sys
 
-    go : SheetOf sys (map asSound ps) (sheetOf sys ps) ⊎ EightOrTen (listTests y (sheetOf sys ps))
+    go : SheetOf sys (map asSound ps) (sheetOf sys ps) ⊎ EightOrTen 0 (allWords ps) (listTests y (sheetOf sys ps))
         → SheetOf sys (map asSound ps) (sheetOf sys ps) ⊎ Undone k (sheetOf sys ps) area
     go (inl w) = inl w
     go (inr w) =
-        let e : laying k (sheetOf sys ps) area ≡ refused (w .number) (w .place) =
+        let e : laying k (sheetOf sys ps) area ≡ refused (w .number) (0 + w .packet) =
         rw (p, shaped-back sys ps, system-back sys ps, n, eq-eqb (length area) (areaSize y) own, w .refuses) in
         inr (record {
-          outcome = record { number = w .number; place = w .place; refuses = e; deserved = w .deserved };
+          outcome =
+              record {
+                number = w .number;
+                packet = w .packet;
+                refuses = e;
+                deserved = w .deserved ∙ ap (λ (t : List ℕ). wordsFault (fromPacket (w .packet) t)) (sym (words-back sys ps));
+                either = w .either;
+              };
           number = rw e;
-          place = rw e;
+          place = rw e (zero-add (w .packet));
           kept = rw e;
         })
 

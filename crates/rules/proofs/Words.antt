@@ -1,6 +1,7 @@
 -- The words of a sheet's section C are read as the list's packets, and what is read is the list's.
 --
--- In order: a byte's word; the words of a packet; of a list: `words-read`, `words-laid`, `words-unique`, `words-room`; refusals.
+-- In order: a byte's word; the words of a packet, whatever its mark, and of a sound one; packets back to back, whatever their tests
+-- (`row-words-read`, `row-words-laid`); of a sound list: `words-read`, `words-laid`, `words-unique`, `words-room`; refusals.
 -- Assumes nothing.
 use Prim.Native.Nat.{ℕ, zero, suc, _+_, _-_, _*_, _%_, _≤_, _<_}
 use mathlib.Core.Path.{_≡_, refl, sym, ap, ap₂, _∙_, subst}

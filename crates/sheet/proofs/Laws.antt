@@ -355,8 +355,10 @@ module _ (sys : ℕ) (y : System) (s : List ℕ) (p : ℕ) (is : p ≡ countIn s
       whole z h =
           let l = list-of z in
           let n : length (l .0) ≡ p = ap (λ (x : Tested). x .packets) (sym (l .2)) ∙ h in
+          let two : length (locationsIn s) ≡ 2 * length (l .0) =
+          ap length (sym (locations-are s p is)) ∙ pairs s p is sh ∙ ap (λ (m : ℕ). 2 * m) (sym n) in
           rw (from-words, l .1, eq-eqb (length (l .0)) (countIn s) (n ∙ is))
-          (l .2 ∙ sym (located-figures sys (locationsIn s) (l .0) (ap length (sym (locations-are s p is)) ∙ pairs s p is sh ∙ ap (λ (m : ℕ). 2 * m) (sym n))))
+          (l .2 ∙ sym (located-figures sys (locationsIn s) (l .0) two))
 
 -- ---- the sheet
 
