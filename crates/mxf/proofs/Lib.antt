@@ -2,6 +2,7 @@
 --
 --   JudgingLaws   each way through the code of `judging`
 --   Inversion     from an element without fault back to the facts of each field
+--   Structures    what the elements of either coding have in common
 --   Elements      an element is read as it was written, and what is read was written so
 --   Figures       the definitions give the elements that were written out by hand
 --   Accepting     the contract of reading
@@ -11,6 +12,7 @@
 --   ReadingLaws   each way through the code of `reading`
 pub mod JudgingLaws
 pub mod Inversion
+pub mod Structures
 pub mod Elements
 pub mod Figures
 pub mod Accepting

@@ -10,7 +10,7 @@ use mathlib.Core.List.{List}
 use lib.Dec.{eqb}
 use Rattle.mxf.specs.Element.{luma as lumaOf}
 use Rattle.mxf.specs.Parts.{Coded}
-use Rattle.mxf.proofs.Elements.{fi-small}
+use Rattle.mxf.proofs.Structures.{fi-small}
 use Rattle.mxf.proofs.ReadingLaws.{Turn, turn, Locating, locating-none, locating-more, locating-all}
 use Rattle.mxf.proofs.reading.write_locations.Statement.{statement}
 use Rattle.mxf.proofs.reading.write_locations.Tie as tie
