@@ -162,8 +162,8 @@ loop-again c =
           (c .if1 .came),
       ⊎-elim
           (λ v.
-          structures-taken so (d .loop-test .taken) size is (v .0 .taken) (omega arith) (structure-next _ (d .before .loop .k) size w refl (v .4 .ensures)) (v .7) (v .8)
-          (omega arith) (v .4 .kept .1 .1 .1 .1 .0))
+          structures-taken so (d .loop-test .taken) size is (v .0 .taken) (omega arith)
+          (structure-next _ (d .before .loop .k) size w refl (v .4 .ensures)) (v .7) (v .8) (omega arith) (v .4 .kept .1 .1 .1 .1 .0))
           (λ v. structures-left so (d .loop-test .taken) size is (v .0 .left) (omega arith) (v .1) (v .2))
           (c .if1 .came),
     )

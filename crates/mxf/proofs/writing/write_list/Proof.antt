@@ -30,8 +30,8 @@ small c =
     let m = c .before .before in
     let v = m .before in
     let s = v .before .before .before .before in
-    measured-small eights _ _ _ (s .args .element .now) (v .before .section-b .ensures) (v .section-c .ensures) _ (m .measure .ensures) (c .if1 .left) _
-    (s .pre .1)
+    measured-small eights _ _ _ (s .args .element .now) (v .before .section-b .ensures) (v .section-c .ensures) _ (m .measure .ensures)
+    (c .if1 .left) _ (s .pre .1)
 
 section-b-requires : tie.Need-section-b-requires
 section-b-requires c κs = search needs
