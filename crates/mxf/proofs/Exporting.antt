@@ -1,135 +1,32 @@
--- What writing gives back and the element buffer afterwards meet the contract `Writes`; and what is written, reading gives back.
+-- What is written, reading gives back.
 --
--- In order: 18; the tests; as it is given back; the way back; the contract.
+-- In order: as it is given back; the way back.
 -- Assumes nothing.
 use Prim.Native.Nat.{ℕ, suc, _+_, _*_, _/_, _≤_}
 use mathlib.Core.Path.{_≡_, refl, sym, ap, ap₂, _∙_, subst}
-use mathlib.Core.Bool.{Bool, true, false, cond, _&&_}
+use mathlib.Core.Bool.{Bool, true, false, cond}
 use mathlib.Core.List.{List, [], _∷_, _++_, map}
 use native.Mathlib.Omega.{arith}
-use lib.Dec.{eqb, leb}
-use lib.ListN.{length, take, drop, length-append, length-map}
-use lib.Seq.{take-at}
-use borrow.Author.Tests.{le-leb, leb-true, eqb-false, ne-eqb}
+use lib.ListN.{length, length-append, length-map}
+use borrow.Author.Tests.{le-leb}
 use Rattle.rules.specs.Base.{All, none, one, joined}
-use Rattle.rules.specs.Systems.{System, known, system}
+use Rattle.rules.specs.Systems.{System, system}
 use Rattle.rules.specs.Packet.{Packet, Sound}
 use Rattle.rules.specs.Danc.{bytesOf, stringBytes}
-use Rattle.rules.specs.Sheet.{limit, systemIn, allWords, sheetOf, wordsIn}
-use Rattle.rules.specs.Numbers.{Outcome, listed, refused, unless, andThen}
-use Rattle.rules.specs.Laying.{sheetTests}
+use Rattle.rules.specs.Sheet.{limit, allWords, sheetOf}
+use Rattle.rules.specs.Numbers.{listed}
 use Rattle.rules.specs.Reading.{bufferOf}
 use Rattle.rules.specs.Demands.{SheetOf}
-use Rattle.rules.proofs.Basics.{never}
 use Rattle.rules.proofs.Words.{words-room}
-use Rattle.rules.proofs.Lister.{sheet-refused}
-use Rattle.rules.proofs.Sheets.{sound-moved, Sixteen, system-back, sheet-read, sheet-laid, sheet-unique, sheet-words}
+use Rattle.rules.proofs.Sheets.{sound-moved, Sixteen, sheet-words}
 use Rattle.sheet.specs.Write.{hasRoom}
 use Rattle.mxf.specs.Element.{two, klv, Padded, bare, coding, structure, value, element, elementOf}
 use Rattle.mxf.specs.Served.{serves, served, fiRead, givenBack, allBack}
-use Rattle.mxf.specs.Writing.{lined, export, withRoom, writing, writtenOf, writtenIn, elementIn, write, elementAfter}
 use Rattle.mxf.specs.Reading.{readOf, read, sheetAfter}
-use Rattle.mxf.specs.Demands.{Lined, Held, Gives, Exported, Unwritten, Writes}
-use Rattle.mxf.specs.declared.ElementWritten.{ElementWritten}
+use Rattle.mxf.specs.Demands.{Lined, Held, Gives}
 use Rattle.mxf.proofs.Structures.{fi-small, HeadOf}
 use Rattle.mxf.proofs.Elements.{structure-length}
 use Rattle.mxf.proofs.Accepting.{accepted}
-
--- ---- 18
-
-module _ (sys : ℕ) (fi : Bool) where
-  -- with a line each, none is refused
-  pub lined-read : (ps : List Packet) (i : ℕ) (o : Outcome) → All Lined (served sys fi ps) → lined sys fi i ps o ≡ o
-  lined-read [] i o g = refl
-  lined-read (p ∷ ps) i o g = go (serves sys fi (p .flags)) g (lined-read ps (suc i) o)
-    where
-      go : (t : Bool) → All Lined (cond t (p ∷ served sys fi ps) (served sys fi ps))
-          → (All Lined (served sys fi ps) → lined sys fi (suc i) ps o ≡ o)
-          → cond (t && eqb (p .line) 0) (refused 18 i) (lined sys fi (suc i) ps o) ≡ o
-      go true (one l ls) later = rw (ne-eqb (p .line) 0 l) (later ls)
-      go false ls later = later ls
-
-  -- what is not refused has a line each
-  pub lined-only : (ps : List Packet) (i : ℕ) (o : Outcome) (qs : List Packet) → lined sys fi i ps o ≡ listed qs
-      → All Lined (served sys fi ps) × (o ≡ listed qs)
-  lined-only [] i o qs e = (none, e)
-  lined-only (p ∷ ps) i o qs e = go (serves sys fi (p .flags)) (eqb (p .line) 0) refl e (lined-only ps (suc i) o qs)
-    where
-      go : (t z : Bool) → eqb (p .line) 0 ≡ z → cond (t && z) (refused 18 i) (lined sys fi (suc i) ps o) ≡ listed qs
-          → (lined sys fi (suc i) ps o ≡ listed qs → All Lined (served sys fi ps) × (o ≡ listed qs))
-          → All Lined (cond t (p ∷ served sys fi ps) (served sys fi ps)) × (o ≡ listed qs)
-      go true true z e later = never (cc)
-      go true false z e later = let w = later e in (one (eqb-false (p .line) 0 z) (w .0), w .1)
-      go false z q e later = later e
-
-  pub lined-refused : (ps : List Packet) (i : ℕ) (o : Outcome) (n k : ℕ) → lined sys fi i ps o ≡ refused n k → (o ≡ refused n k → 1 ≤ n) → 1 ≤ n
-  lined-refused [] i o n k e f = f e
-  lined-refused (p ∷ ps) i o n k e f = go (serves sys fi (p .flags) && eqb (p .line) 0) e (λ z. lined-refused ps (suc i) o n k z f)
-    where
-      go : (t : Bool) → cond t (refused 18 i) (lined sys fi (suc i) ps o) ≡ refused n k → (lined sys fi (suc i) ps o ≡ refused n k → 1 ≤ n) → 1 ≤ n
-      go true e later = let m : n ≡ 18 = cc in omega arith
-      go false e later = later e
-
--- ---- the tests
-
-module _ (fi : Bool) (s : List ℕ) (room : ℕ) where
-  -- the sheet of a list
-  module _ (sys : ℕ) (ps : List Packet) (g : SheetOf sys ps s) where
-    own-system : systemIn s ≡ sys
-    own-system = ap systemIn (g .whole) ∙ system-back sys ps
-
-    writing-is : writing fi s room ≡ withRoom sys room (export sys fi ps)
-    unfolding writing
-    writing-is = rw (sheet-read sys ps s g, own-system)
-
-    written : All Lined (served sys fi ps) → length (elementOf sys (served sys fi ps)) ≤ room → writing fi s room ≡ listed (served sys fi ps)
-    written l h =
-        writing-is
-        ∙ ap (withRoom sys room) (lined-read sys fi ps 0 (listed (served sys fi ps)) l)
-        ∙ rw (le-leb (length (elementOf sys (served sys fi ps))) room h)
-
-    written-only : (qs : List Packet) → writing fi s room ≡ listed qs
-        → All Lined (served sys fi ps) × (length (elementOf sys (served sys fi ps)) ≤ room)
-    written-only qs e = go (export sys fi ps) refl (sym writing-is ∙ e)
-      where
-        fitted : (rs : List Packet) (t : Bool) → leb (length (elementOf sys rs)) room ≡ t → unless 17 t (listed rs) ≡ listed qs
-            → length (elementOf sys rs) ≤ room
-        fitted rs true q e = leb-true (length (elementOf sys rs)) room q
-        fitted rs false q e = never (cc)
-
-        go : (o : Outcome) → export sys fi ps ≡ o → withRoom sys room o ≡ listed qs
-            → All Lined (served sys fi ps) × (length (elementOf sys (served sys fi ps)) ≤ room)
-        go (refused n i) q e = never (cc)
-        go (listed rs) q e =
-            let w = lined-only sys fi ps 0 (listed (served sys fi ps)) rs q in
-            let same : rs ≡ served sys fi ps = let z = w .1 in cc in
-            let f = fitted rs (leb (length (elementOf sys rs)) room) refl e in
-            (w .0, subst (λ (rs : List Packet). length (elementOf sys rs) ≤ room) same f)
-
-  untested : (n i : ℕ) → sheetTests s ≡ refused n i → writing fi s room ≡ refused n i
-  unfolding writing
-  untested n i t = rw t
-
-  -- a refusal's number is not 0
-  writing-refused : (n i : ℕ) → writing fi s room ≡ refused n i → 1 ≤ n
-  unfolding writing sheetTests
-  writing-refused n i e = tested (sheetTests s) refl e
-    where
-      sys : ℕ
-      sys = systemIn s
-
-      fitted : (rs : List Packet) (t : Bool) → unless 17 t (listed rs) ≡ refused n i → 1 ≤ n
-      fitted rs true e = never (cc)
-      fitted rs false e = let k : n ≡ 17 = cc in omega arith
-
-      roomy : (o : Outcome) → withRoom sys room o ≡ refused n i → (o ≡ refused n i → 1 ≤ n) → 1 ≤ n
-      roomy (listed rs) e f = fitted rs (leb (length (elementOf sys rs)) room) e
-      roomy (refused m j) e f = f e
-
-      tested : (o : Outcome) → sheetTests s ≡ o → withRoom sys room (andThen o (export sys fi)) ≡ refused n i → 1 ≤ n
-      tested (listed ps) q e =
-          roomy (export sys fi ps) e (λ z. lined-refused sys fi ps 0 (listed (served sys fi ps)) n i z (λ w. never (cc)))
-      tested (refused m j) q e = sheet-refused s n i (q ∙ e)
 
 -- ---- as it is given back
 
@@ -259,71 +156,3 @@ comes-back fi s hs sys ps g l e sheet q h =
     let roomy = ap (hasRoom sys (length sheet)) same ∙ back-room sys fi ps (subst Sixteen (g .whole) hs) (length sheet) h in
     let w = accepted sys fi e (length sheet) (g .known) xs given few roomy ∙ ap listed same in
     (ap (readOf sys) w, ap (bufferOf sys sheet) w)
-
--- ---- the contract
-
--- the contract of writing follows from its first two fields, over a sheet of sixteen-bit numbers
-pub writes : (fi : Bool) (s target : List ℕ) (r : ElementWritten) (after : List ℕ) → Sixteen s → r ≡ write fi s target
-    → after ≡ elementAfter fi s target → Writes fi s target r after
-unfolding write elementAfter
-writes fi s target r after hs er ea =
-    record {
-      answer = er;
-      buffer = ea;
-      demand1 = λ n. unwritten (writing fi s (length target)) er ea n;
-      exports =
-          record {
-            written = λ sys ps x. done sys ps x;
-            only = λ n. only (writing fi s (length target)) refl (ap (λ (x : ElementWritten). x .number) er) n;
-          };
-      comesBack = record { back = λ sys ps sheet g n h. back sys ps sheet g (only (writing fi s (length target)) refl (number er) n) h };
-    }
-  where
-    number : r ≡ writtenIn (systemIn s) (wordsIn s) (writing fi s (length target))
-        → r .number ≡ writtenOf (systemIn s) (writing fi s (length target)) .number
-    number e = ap (λ (x : ElementWritten). x .number) e
-
-    unwritten : (o : Outcome) → r ≡ writtenIn (systemIn s) (wordsIn s) o → after ≡ elementIn (systemIn s) target o → (r .number ≡ 0 → ⊥)
-        → Unwritten r target after
-    unwritten (listed ps) p q n = absurd (n (ap (λ (x : ElementWritten). x .number) p))
-    unwritten (refused m i) p q n =
-        record { kept = q; packets = ap (λ (x : ElementWritten). x .packets) p; bytes = ap (λ (x : ElementWritten). x .bytes) p }
-
-    done : (sys : ℕ) (ps : List Packet) → Exported fi sys ps s target
-        → (r ≡ writtenOf sys (listed (served sys fi ps))) × (after ≡ elementIn sys target (listed (served sys fi ps)))
-    done sys ps x =
-        let w = written fi s (length target) sys ps (x .sheet) (x .lined) (x .room) in
-        let y = own-system fi s (length target) sys ps (x .sheet) in
-        (er ∙ ap₂ (λ (n : ℕ) (o : Outcome). writtenIn n (wordsIn s) o) y w, ea ∙ ap₂ (λ (n : ℕ) (o : Outcome). elementIn n target o) y w)
-
-    only : (o : Outcome) → writing fi s (length target) ≡ o → r .number ≡ writtenOf (systemIn s) o .number → r .number ≡ 0
-        → (sys : ℕ) × (ps : List Packet) × Exported fi sys ps s target
-    only (refused m i) q p n = let h = writing-refused fi s (length target) m i q in absurd (omega arith)
-    only (listed qs) q p n = tested (sheetTests s) refl
-      where
-        tested : (o : Outcome) → sheetTests s ≡ o → (sys : ℕ) × (ps : List Packet) × Exported fi sys ps s target
-        tested (listed ps) t =
-            let g = sheet-laid s ps t in
-            let w = written-only fi s (length target) (systemIn s) ps g qs q in
-            (systemIn s, ps, record { sheet = g; lined = w .0; room = w .1 })
-        tested (refused n i) t = never (clash n i t)
-          where
-            clash : (n i : ℕ) → sheetTests s ≡ refused n i → _≡_ {A = ℕ} 0 1
-            clash n i t = let z : writing fi s (length target) ≡ refused n i = untested fi s (length target) n i t in cc
-
-    back : (sys : ℕ) (ps : List Packet) (sheet : List ℕ) → SheetOf sys ps s → (sys : ℕ) × (ps : List Packet) × Exported fi sys ps s target
-        → length (sheetOf sys (allBack sys fi ps)) ≤ length sheet
-        → (read sys fi (take (r .bytes) after) sheet ≡ readOf sys (listed (allBack sys fi ps)))
-        × (sheetAfter sys fi (take (r .bytes) after) sheet ≡ bufferOf sys sheet (listed (allBack sys fi ps)))
-    back sys ps sheet g x h =
-        let u = sheet-unique (x .0) sys (x .1) ps s (x .2 .sheet) g in
-        let lines = subst (λ (qs : List Packet). All Lined (served (x .0) fi qs)) (u .1) (x .2 .lined) in
-        let lined = subst (λ (n : ℕ). All Lined (served n fi ps)) (u .0) lines in
-        let w = done (x .0) (x .1) (x .2) in
-        let qs : List Packet = served (x .0) fi (x .1) in
-        let b : r .bytes ≡ length (elementOf (x .0) qs) = ap (λ (y : ElementWritten). y .bytes) (w .0) in
-        let front : take (r .bytes) after ≡ elementOf (x .0) qs =
-        ap (take (r .bytes)) (w .1) ∙ take-at (elementOf (x .0) qs) (drop (length (elementOf (x .0) qs)) target) (r .bytes) (sym b) in
-        let same : elementOf (x .0) qs ≡ elementOf sys (served sys fi ps) =
-        ap₂ (λ (n : ℕ) (rs : List Packet). elementOf n (served n fi rs)) (u .0) (u .1) in
-        comes-back fi s hs sys ps g lined (take (r .bytes) after) sheet (front ∙ same) h

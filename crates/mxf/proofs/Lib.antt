@@ -6,8 +6,9 @@
 --   Elements      an element is read as it was written, and what is read was written so
 --   Figures       the definitions give the elements that were written out by hand
 --   Accepting     the contract of reading
---   Exporting     the contract of writing, and the way back
---   WritingLaws   each way through the code of `writing`
+--   Exporting     what is written comes back
+--   Writers       each way through the code of writing, whatever the samples
+--   WritingLaws   each way through the code of `writing` that is its own, and the contract of writing
 --   ReadingLaws   each way through the code of `reading`
 pub mod JudgingLaws
 pub mod Inversion
@@ -16,5 +17,6 @@ pub mod Elements
 pub mod Figures
 pub mod Accepting
 pub mod Exporting
+pub mod Writers
 pub mod WritingLaws
 pub mod ReadingLaws

@@ -1,204 +1,37 @@
--- Laws for the proofs of `writing`, one path of the code at a time.
+-- Laws for the proofs of `writing`, one path of the code at a time: what is its own, beside the laws of every writer; and its contract.
 --
--- In order: the bytes of structures; which packets are served; the measure; stores from the front; parts of a
--- buffer; a structure; the structures; the head; the element; 18 and 17; the lister's tests.
+-- In order: stores from the front; a structure; the head; the writer; the lister's tests; the contract.
 -- Assumes nothing.
-use Prim.Native.Nat.{ℕ, suc, _+_, _-_, _*_, _/_, _%_, _≤_, _<_}
+use Prim.Native.Nat.{ℕ, _+_, _-_, _*_, _/_, _%_, _≤_, _<_}
 use mathlib.Core.Path.{_≡_, refl, sym, ap, ap₂, _∙_}
-use mathlib.Core.Bool.{Bool, true, false, cond, _&&_}
+use mathlib.Core.Bool.{Bool}
 use mathlib.Core.List.{List, [], _∷_, _++_, map, append-assoc, append-nil}
 use native.Mathlib.Omega.{arith}
 use native.Mathlib.Numerals.{add-one}
-use lib.Dec.{eqb, leb}
-use lib.ListN.{length, getD, take, drop, set, length-append, length-drop, length-map, drop-of-length-le, take-append-drop}
-use lib.Seq.{sets, sets-eq, length-sets, drop-cons, drop-drop, take-at, take-all}
-use borrow.Author.Tests.{le-leb, lt-leb, eq-eqb, ne-eqb}
-use Rattle.rules.specs.Base.{joined, All}
-use Rattle.rules.specs.Systems.{System, system}
+use lib.ListN.{length, getD, take, drop, set, drop-of-length-le, take-append-drop}
+use lib.Seq.{sets, sets-eq, length-sets, drop-cons, drop-drop, take-at}
+use Rattle.rules.specs.Base.{joined}
+use Rattle.rules.specs.Systems.{System}
 use Rattle.rules.specs.Packet.{Packet, words, coded, checkOf, Sound}
-use Rattle.rules.specs.Danc.{bytesOf}
-use Rattle.rules.specs.Sheet.{limit, allWords, systemIn, locationsIn, wordsIn}
-use Rattle.rules.specs.Numbers.{Outcome, listed, refused, unless, andThen}
+use Rattle.rules.specs.Sheet.{allWords, systemIn, wordsIn}
+use Rattle.rules.specs.Numbers.{Outcome, listed, refused}
 use Rattle.rules.specs.Laying.{low, wordAt, wordIn, sheetTests}
 use Rattle.rules.specs.Lister.{testedIn, tested}
 use Rattle.rules.specs.Demands.{SheetOf, Tests}
 use Rattle.rules.specs.declared.Tested.{Tested}
-use Rattle.rules.proofs.Basics.{sets-front, sets-behind, rest-part}
+use Rattle.rules.proofs.Basics.{sets-front, sets-behind}
 use Rattle.rules.proofs.Words.{body-bytes, coded-length, coded-low}
-use Rattle.rules.proofs.Sheets.{system-back, sheet-read}
-use Rattle.sheet.proofs.Filling.{part-kept, part-front}
-use Rattle.sections.specs.Sections.{SectionsOf, Sections}
-use Rattle.sections.proofs.Laws.{sections-of, Left, left-all, left-none, Next, next-of, next-inside}
-use Rattle.mxf.specs.Element.{two, three, four, key, wrapping, coding, bare, samples, structure, value, element, elementOf}
-use Rattle.mxf.specs.Served.{serves, served}
-use Rattle.mxf.specs.Writing.{lined, export, withRoom, writing, writtenOf, writtenWith, writtenIn, elementIn, write, elementAfter}
+use Rattle.rules.proofs.Lister.{sheet-refused}
+use Rattle.rules.proofs.Sheets.{Sixteen, sheet-read, sheet-laid, sheet-unique}
+use Rattle.sections.specs.Sections.{SectionsOf}
+use Rattle.sections.proofs.Laws.{sections-of, left-all, Next}
+use Rattle.mxf.specs.Element.{two, three, four, key, wrapping, coding, Padded, bare, samples, structure, value, klv, element, elementOf}
+use Rattle.mxf.specs.Writing.{writing, write, elementAfter}
+use Rattle.mxf.specs.Demands.{Writes}
 use Rattle.mxf.specs.declared.ElementWritten.{ElementWritten}
 use Rattle.mxf.proofs.Elements.{structure-length}
-use Rattle.mxf.proofs.Exporting.{joined-short, served-sound, served-few}
-
--- ---- the bytes of structures
-
-abbrev pub structuresOf : ℕ → List Packet → List ℕ
-structuresOf sys ps = joined (structure sys) (map bare ps)
-
-structures-length : (sys : ℕ) (p : Packet) (ps : List Packet)
-    → length (structuresOf sys (p ∷ ps)) ≡ length (p .user) + 17 + length (structuresOf sys ps)
-structures-length sys p ps =
-    let a = length-append (structure sys (bare p)) (structuresOf sys ps) in
-    let b = structure-length sys (bare p) in
-    omega arith
-
-element-length : (sys : ℕ) (ps : List Packet) → length (element sys (map bare ps)) ≡ 22 + length (structuresOf sys ps)
-unfolding element value key
-element-length sys ps = omega arith
-
--- ---- which packets are served
-
-module _ (sys : ℕ) (fi : Bool) (p : Packet) (ps : List Packet) where
-  served-taken : serves sys fi (p .flags) ≡ true → served sys fi (p ∷ ps) ≡ p ∷ served sys fi ps
-  served-taken e = rw e
-
-  served-left : serves sys fi (p .flags) ≡ false → served sys fi (p ∷ ps) ≡ served sys fi ps
-  served-left e = rw e
-
-  lined-taken : (i : ℕ) (o : Outcome) → (p .line ≡ 0 → ⊥) → lined sys fi i (p ∷ ps) o ≡ lined sys fi (i + 1) ps o
-  lined-taken i o n = rw (ne-eqb (p .line) 0 n, add-one i) (go (serves sys fi (p .flags)))
-    where
-      go : (b : Bool) → cond (b && false) (refused 18 i) (lined sys fi (suc i) ps o) ≡ lined sys fi (suc i) ps o
-      go true = refl
-      go false = refl
-
-  lined-left : (i : ℕ) (o : Outcome) → serves sys fi (p .flags) ≡ false → lined sys fi i (p ∷ ps) o ≡ lined sys fi (i + 1) ps o
-  lined-left i o e = rw (e, add-one i)
-
-  lined-none : (i : ℕ) (o : Outcome) → serves sys fi (p .flags) ≡ true → p .line ≡ 0 → lined sys fi i (p ∷ ps) o ≡ refused 18 i
-  lined-none i o e z = rw (e, eq-eqb (p .line) 0 z)
-
--- ---- the measure
-
--- once the packets that are left are measured with those that are, all are measured
-record MeasureLeft (sys : ℕ) (fi : Bool) (y : System) (ps : List Packet) (ls ws : List ℕ) (k at packets bytes : ℕ) : Type 0 where
-  left : List Packet
-  is : Left y ls ws (2 * k) at left
-  lines : (o : Outcome) → lined sys fi 0 ps o ≡ lined sys fi k left o
-  count : packets + length (served sys fi left) ≡ length (served sys fi ps)
-  size : bytes + length (structuresOf sys (served sys fi left)) ≡ 22 + length (structuresOf sys (served sys fi ps))
-
-pub record Measuring (sys : ℕ) (fi : Bool) (ls ws : List ℕ) (k at packets bytes : ℕ) : Type 0 where
-  of : (y : System) (ps : List Packet) → SectionsOf y ps ls ws → MeasureLeft sys fi y ps ls ws k at packets bytes
-  pub few : packets ≤ k
-  pub short : bytes ≤ 22 + 3 * at
-
-pub measure-begin : {sys : ℕ} {fi : Bool} {ls ws : List ℕ} → Measuring sys fi ls ws 0 0 0 22
-measure-begin {sys} {fi} {ls} {ws} = record {
-  of = λ y ps h. record { left = ps; is = left-all y ls ws ps h; lines = λ o. refl; count = omega arith; size = refl };
-  few = omega arith;
-  short = omega arith;
-}
-
-module _ {sys : ℕ} {fi : Bool} {ls ws : List ℕ} {k at packets bytes : ℕ} (so : Measuring sys fi ls ws k at packets bytes) where
-  abbrev Answer : ElementWritten → Type 0
-  Answer r = (y : System) (ps : List Packet) → SectionsOf y ps ls ws → r ≡ writtenOf sys (export sys fi ps)
-
-  -- all are measured
-  pub measure-done : length ls ≤ 2 * k → Answer (record { number = 0; place = 0; word = 0; packets = packets; bytes = bytes })
-  measure-done end y ps h = go (so .of y ps h)
-    where
-      go : MeasureLeft sys fi y ps ls ws k at packets bytes
-          → record { number = 0; place = 0; word = 0; packets = packets; bytes = bytes } ≡ writtenOf sys (export sys fi ps)
-      go f =
-          let n : f .left ≡ [] = left-none y ls ws (2 * k) at (f .left) (f .is) (omega arith) in
-          let e : export sys fi ps ≡ listed (served sys fi ps) =
-          f .lines (listed (served sys fi ps)) ∙ ap (λ (t : List Packet). lined sys fi k t (listed (served sys fi ps))) n in
-          let c : packets ≡ length (served sys fi ps) =
-          let a = f .count in let b : length (served sys fi (f .left)) ≡ 0 = ap (λ (t : List Packet). length (served sys fi t)) n in omega arith in
-          let d : bytes ≡ length (element sys (map bare (served sys fi ps))) =
-          let a = f .size in
-          let b : length (structuresOf sys (served sys fi (f .left))) ≡ 0 =
-          ap (λ (t : List Packet). length (structuresOf sys (served sys fi t))) n in
-          let l = element-length sys (served sys fi ps) in
-          omega arith in
-          ap₂ (λ (m n : ℕ). record { number = 0; place = 0; word = 0; packets = m; bytes = n }) c d ∙ ap (writtenOf sys) (sym e)
-
-  module _ (more : 2 * k < length ls) where
-    measure-next : (y : System) (ps : List Packet) (h : SectionsOf y ps ls ws) → Next y ls ws (2 * k) at (so .of y ps h .left)
-    measure-next y ps h = let f = so .of y ps h in next-of y ls ws (2 * k) at (f .left) (f .is) more
-
-    -- the next packet stands in the sections
-    pub measure-inside : Sections ls ws → (at + (low (getD ws (at + 5) 0) + 7) ≤ length ws) × (2 * k + 2 ≤ length ls)
-    measure-inside s = next-inside (s .system) ls ws (2 * k) at _ (measure-next (s .system) (s .packets) (s .of))
-
-    module _ {dc : ℕ} {b : Bool} (size : dc ≡ low (getD ws (at + 5) 0)) (is : b ≡ serves sys fi (getD ls (2 * k + 1) 0)) where
-      -- one that is served without a line
-      pub measure-unlined : {r : ElementWritten} → b ≡ true → getD ls (2 * k) 0 ≡ 0 → r ≡ writtenOf 0 (refused 18 k) → Answer r
-      measure-unlined {r} t z e y ps h = go (so .of y ps h) (measure-next y ps h)
-        where
-          go : (f : MeasureLeft sys fi y ps ls ws k at packets bytes) → Next y ls ws (2 * k) at (f .left) → r ≡ writtenOf sys (export sys fi ps)
-          go f n =
-              let o : Outcome = listed (served sys fi ps) in
-              let s : serves sys fi (n .packet .flags) ≡ true = ap (serves sys fi) (sym (n .flags)) ∙ sym is ∙ t in
-              let x : export sys fi ps ≡ refused 18 k =
-              f .lines o ∙ ap (λ (qs : List Packet). lined sys fi k qs o) (n .is)
-              ∙ lined-none sys fi (n .packet) (n .rest) k o s (sym (n .line) ∙ z) in
-              e ∙ ap (writtenOf sys) (sym x)
-
-      -- one that is served, and has a line
-      pub measure-taken : {packets₁ bytes₁ : ℕ} → b ≡ true → (getD ls (2 * k) 0 ≡ 0 → ⊥) → packets₁ ≡ packets + 1 → bytes₁ ≡ bytes + (14 + dc + 3)
-          → Measuring sys fi ls ws (k + 1) (at + (dc + 7)) packets₁ bytes₁
-      measure-taken {packets₁} {bytes₁} t z ep eb = record {
-        of = λ y ps h. go y ps (so .of y ps h) (measure-next y ps h);
-        few = let m = so .few in omega arith;
-        short = let m = so .short in omega arith;
-      }
-        where
-          go : (y : System) (ps : List Packet) (f : MeasureLeft sys fi y ps ls ws k at packets bytes) → Next y ls ws (2 * k) at (f .left)
-              → MeasureLeft sys fi y ps ls ws (k + 1) (at + (dc + 7)) packets₁ bytes₁
-          go y ps f n =
-              let p : Packet = n .packet in
-              let qs : List Packet = n .rest in
-              let s : serves sys fi (p .flags) ≡ true = ap (serves sys fi) (sym (n .flags)) ∙ sym is ∙ t in
-              let v : served sys fi (f .left) ≡ p ∷ served sys fi qs = ap (served sys fi) (n .is) ∙ served-taken sys fi p qs s in
-              let d : dc ≡ length (p .user) = size ∙ n .dc in
-              let turn : 2 * (k + 1) ≡ 2 * k + 2 = omega arith in
-              let c : length (served sys fi (f .left)) ≡ suc (length (served sys fi qs)) = ap length v in
-              let l : length (structuresOf sys (served sys fi (f .left))) ≡ length (p .user) + 17 + length (structuresOf sys (served sys fi qs)) =
-              ap (λ (rs : List Packet). length (structuresOf sys rs)) v ∙ structures-length sys p (served sys fi qs) in
-              record {
-                left = qs;
-                is = rw (turn, d) (n .after);
-                lines = λ o.
-                    f .lines o
-                    ∙ ap (λ (rs : List Packet). lined sys fi k rs o) (n .is)
-                    ∙ lined-taken sys fi p qs k o (λ e. z (n .line ∙ e));
-                count = let a = f .count in omega arith;
-                size = let a = f .size in omega arith;
-              }
-
-      -- one that is passed over
-      pub measure-left : {packets₁ bytes₁ : ℕ} → b ≡ false → packets₁ ≡ packets → bytes₁ ≡ bytes
-          → Measuring sys fi ls ws (k + 1) (at + (dc + 7)) packets₁ bytes₁
-      measure-left {packets₁} {bytes₁} t ep eb = record {
-        of = λ y ps h. go y ps (so .of y ps h) (measure-next y ps h);
-        few = let m = so .few in omega arith;
-        short = let m = so .short in omega arith;
-      }
-        where
-          go : (y : System) (ps : List Packet) (f : MeasureLeft sys fi y ps ls ws k at packets bytes) → Next y ls ws (2 * k) at (f .left)
-              → MeasureLeft sys fi y ps ls ws (k + 1) (at + (dc + 7)) packets₁ bytes₁
-          go y ps f n =
-              let p : Packet = n .packet in
-              let qs : List Packet = n .rest in
-              let s : serves sys fi (p .flags) ≡ false = ap (serves sys fi) (sym (n .flags)) ∙ sym is ∙ t in
-              let v : served sys fi (f .left) ≡ served sys fi qs = ap (served sys fi) (n .is) ∙ served-left sys fi p qs s in
-              let d : dc ≡ length (p .user) = size ∙ n .dc in
-              let turn : 2 * (k + 1) ≡ 2 * k + 2 = omega arith in
-              record {
-                left = qs;
-                is = rw (turn, d) (n .after);
-                lines = λ o. f .lines o ∙ ap (λ (rs : List Packet). lined sys fi k rs o) (n .is) ∙ lined-left sys fi p qs k o s;
-                count = ap₂ (λ (m : ℕ) (rs : List Packet). m + length rs) ep (sym v) ∙ f .count;
-                size = ap₂ (λ (m : ℕ) (rs : List Packet). m + length (structuresOf sys rs)) eb (sym v) ∙ f .size;
-              }
+use Rattle.mxf.proofs.Exporting.{comes-back}
+use Rattle.mxf.proofs.Writers.{Writer, Named, Answered, unwritten, sent-written, sent-only, sent-back}
 
 -- ---- stores from the front
 
@@ -248,49 +81,28 @@ front-run {l₀} {l} {after} {front} {i} {j} vs f e h is =
           ∙ ap (λ (n : ℕ). drop n l₀) e;
     }
 
--- ---- parts of a buffer
-
-pub lent-long : (n : ℕ) (s t : List ℕ) → length s ≡ n + length t → length (take (length s - n) (drop n s)) ≡ length t
-lent-long n s t e = ap length (rest-part n s) ∙ length-drop n s ∙ (let m : length s - n ≡ length t = omega arith in m)
-
 -- ---- a structure
 
--- its fields before the array, with the array's count and element length in halves
-abbrev fieldsOf : ℕ → ℕ → ℕ → ℕ → List ℕ
-fieldsOf line w c n = two line ++ w ∷ c ∷ two n ++ two 0 ++ two n ++ two 0 ++ two 1
-
 -- the high half of a small number is 0
-four-halves : (n : ℕ) → n ≤ 258 → two 0 ++ two n ≡ four n
+four-halves : (n : ℕ) → n < 65536 → two 0 ++ two n ≡ four n
 four-halves n h =
     let a : 0 ≡ n / 16777216 = omega arith in
     let b : 0 ≡ n / 65536 % 256 = omega arith in
     let c : n / 256 ≡ n / 256 % 256 = omega arith in
     λ i. a i ∷ b i ∷ c i ∷ n % 256 ∷ []
 
-module _ (line w c n : ℕ) (out : List ℕ) {o1 o2 o3 o4 o5 o6 : List ℕ} (room : 14 ≤ length out) (e1 : o1 ≡ sets out 0 (two line))
-    (e2 : o2 ≡ sets (set (set o1 2 w) 3 c) 4 (two n)) (e3 : o3 ≡ sets o2 6 (two 0)) (e4 : o4 ≡ sets o3 8 (two n))
-    (e5 : o5 ≡ sets o4 10 (two 0)) (e6 : o6 ≡ sets o5 12 (two 1)) where
-  fields-stored : Front out o6 14 (fieldsOf line w c n)
-  fields-stored =
-      let f1 = front-run (two line) (front-none out) refl (omega arith) e1 in
-      let f2 = front-run (w ∷ c ∷ two n) f1 refl (omega arith) e2 in
-      let f3 = front-run (two 0) f2 refl (omega arith) e3 in
-      let f4 = front-run (two n) f3 refl (omega arith) e4 in
-      let f5 = front-run (two 0) f4 refl (omega arith) e5 in
-      front-run (two 1) f5 refl (omega arith) e6
-
-  -- the samples behind its fields
-  pub structure-put : (s ys : List ℕ) (flags : ℕ) → n ≤ 258 → ys ≡ s → c ≡ coding flags
-      → take 14 o6 ++ (ys ++ drop (length o6 - 14) (drop 14 o6)) ≡ two line ++ w ∷ coding flags ∷ two n ++ four n ++ four 1 ++ s
-  structure-put s ys flags few es ec =
-      let f = fields-stored in
-      let h : length (drop 14 o6) ≤ length o6 - 14 = let d = length-drop 14 o6 in omega arith in
-      let none : drop (length o6 - 14) (drop 14 o6) ≡ [] = drop-of-length-le (drop 14 o6) h in
-      ap₂ (λ (a b : List ℕ). a ++ (ys ++ b)) (f .stored) none
-      ∙ ap (λ (t : List ℕ). fieldsOf line w c n ++ t) (append-nil ys ∙ es)
-      ∙ ap₂ (λ (m : ℕ) (t : List ℕ). two line ++ w ∷ m ∷ two n ++ t ++ four 1 ++ s) ec (four-halves n few)
-
--- ---- the structures
+-- its fields before the array's bytes, with the array's count and element length in halves
+pub fields-put : (line w c n m : ℕ) (out : List ℕ) {o1 o2 o3 o4 o5 o6 : List ℕ} → m < 65536 → o1 ≡ sets out 0 (two line)
+    → o2 ≡ sets (set (set o1 2 w) 3 c) 4 (two n) → o3 ≡ sets o2 6 (two 0) → o4 ≡ sets o3 8 (two m) → o5 ≡ sets o4 10 (two 0)
+    → o6 ≡ sets o5 12 (two 1) → o6 ≡ sets out 0 (two line ++ w ∷ c ∷ two n ++ four m ++ four 1)
+fields-put line w c n m out h e1 e2 e3 e4 e5 e6 =
+    let f2 = e2 ∙ ap (λ (t : List ℕ). sets (set (set t 2 w) 3 c) 4 (two n)) e1 in
+    let f3 = e3 ∙ ap (λ (t : List ℕ). sets t 6 (two 0)) f2 in
+    let f4 = e4 ∙ ap (λ (t : List ℕ). sets t 8 (two m)) f3 in
+    let f5 = e5 ∙ ap (λ (t : List ℕ). sets t 10 (two 0)) f4 in
+    e6
+    ∙ ap (λ (t : List ℕ). sets t 12 (two 1)) f5
+    ∙ ap (λ (t : List ℕ). sets out 0 (two line ++ w ∷ c ∷ two n ++ t ++ four 1)) (four-halves m h)
 
 -- the words from DID to the last user word
 coded-there : (p : Packet) (r ws : List ℕ) (at n : ℕ) → drop at ws ≡ words p ++ r → n ≡ length (p .user) + 3 → take n (drop (at + 3) ws) ≡ coded p
@@ -309,139 +121,16 @@ structure-is sys y p g =
     let n : samples p + 0 ≡ samples p = omega arith in
     rw (n, coded-length p, coded-low p (body-bytes y p g), append-nil (p .user))
 
--- once the structures that are left are laid behind those that are, all are laid
-record StructuresLeft (sys : ℕ) (fi : Bool) (y : System) (ps : List Packet) (ls ws out : List ℕ) (k at o : ℕ) : Type 0 where
-  left : List Packet
-  is : Left y ls ws (2 * k) at left
-  room : o + length (structuresOf sys (served sys fi left)) ≡ length out
-  laid : take o out ++ structuresOf sys (served sys fi left) ≡ structuresOf sys (served sys fi ps)
-
-pub record Structures (sys : ℕ) (fi : Bool) (ls ws out : List ℕ) (k at o : ℕ) : Type 0 where
-  of : (y : System) (ps : List Packet) → SectionsOf y ps ls ws → StructuresLeft sys fi y ps ls ws out k at o
-
--- the buffer has as many bytes as the structures
-abbrev RoomFor : ℕ → Bool → List ℕ → List ℕ → List ℕ → Type 0
-RoomFor sys fi ls ws out = (y : System) (ps : List Packet) → SectionsOf y ps ls ws → length out ≡ length (structuresOf sys (served sys fi ps))
-
-pub structures-begin : {sys : ℕ} {fi : Bool} {ls ws out : List ℕ} → RoomFor sys fi ls ws out → Structures sys fi ls ws out 0 0 0
-structures-begin {sys} {fi} {ls} {ws} {out} room = record {
-  of = λ y ps h. record { left = ps; is = left-all y ls ws ps h; room = (let r = room y ps h in omega arith); laid = refl };
-}
-
-module _ {sys : ℕ} {fi : Bool} {ls ws out : List ℕ} {k at o : ℕ} (so : Structures sys fi ls ws out k at o) where
-  -- all are laid
-  pub structures-done : length ls ≤ 2 * k → (y : System) (ps : List Packet) → SectionsOf y ps ls ws → out ≡ structuresOf sys (served sys fi ps)
-  structures-done end y ps h = go (so .of y ps h)
-    where
-      go : StructuresLeft sys fi y ps ls ws out k at o → out ≡ structuresOf sys (served sys fi ps)
-      go f =
-          let n : structuresOf sys (served sys fi (f .left)) ≡ [] =
-          ap (λ (t : List Packet). structuresOf sys (served sys fi t)) (left-none y ls ws (2 * k) at (f .left) (f .is) (omega arith)) in
-          let l : length (structuresOf sys (served sys fi (f .left))) ≡ 0 = ap length n in
-          let r = f .room in
-          sym (take-all o out (omega arith))
-          ∙ sym (append-nil (take o out))
-          ∙ ap (λ (t : List ℕ). take o out ++ t) (sym n)
-          ∙ f .laid
-
-  -- a structure came back to its place
-  pub structures-kept : {next o₁ : ℕ} (ys : List ℕ) {out₁ : List ℕ} → out₁ ≡ take o out ++ (ys ++ drop (next - o) (drop o out)) → o₁ ≡ next
-      → length ys ≡ length (take (next - o) (drop o out)) → length out₁ ≡ length out
-  structures-kept {next} {o₁} ys eo e₁ kept = ap length eo ∙ part-kept o (next - o) out ys kept
-
-  module _ (more : 2 * k < length ls) where
-    structures-next : (y : System) (ps : List Packet) (h : SectionsOf y ps ls ws) → Next y ls ws (2 * k) at (so .of y ps h .left)
-    structures-next y ps h = let f = so .of y ps h in next-of y ls ws (2 * k) at (f .left) (f .is) more
-
-    -- the next packet stands in the sections
-    pub structures-inside : Sections ls ws → (at + (low (getD ws (at + 5) 0) + 7) ≤ length ws) × (2 * k + 2 ≤ length ls)
-    structures-inside s = next-inside (s .system) ls ws (2 * k) at _ (structures-next (s .system) (s .packets) (s .of))
-
-    module _ {dc : ℕ} {b : Bool} (size : dc ≡ low (getD ws (at + 5) 0)) (is : b ≡ serves sys fi (getD ls (2 * k + 1) 0)) where
-      module _ (t : b ≡ true) where
-        taken-next : (y : System) (ps : List Packet) (f : StructuresLeft sys fi y ps ls ws out k at o) (n : Next y ls ws (2 * k) at (f .left))
-            → (served sys fi (f .left) ≡ n .packet ∷ served sys fi (n .rest))
-            × (o + (dc + 17) + length (structuresOf sys (served sys fi (n .rest))) ≡ length out)
-        taken-next y ps f n =
-            let p : Packet = n .packet in
-            let qs : List Packet = n .rest in
-            let s : serves sys fi (p .flags) ≡ true = ap (serves sys fi) (sym (n .flags)) ∙ sym is ∙ t in
-            let v : served sys fi (f .left) ≡ p ∷ served sys fi qs = ap (served sys fi) (n .is) ∙ served-taken sys fi p qs s in
-            let l : length (structuresOf sys (served sys fi (f .left))) ≡ length (p .user) + 17 + length (structuresOf sys (served sys fi qs)) =
-            ap (λ (rs : List Packet). length (structuresOf sys rs)) v ∙ structures-length sys p (served sys fi qs) in
-            let d : dc ≡ length (p .user) = size ∙ n .dc in
-            let r = f .room in
-            (v, omega arith)
-
-        -- there is room for its structure
-        pub structures-room : Sections ls ws → o + (dc + 17) ≤ length out
-        structures-room s =
-            let y = s .system in
-            let ps = s .packets in
-            let e = taken-next y ps (so .of y ps (s .of)) (structures-next y ps (s .of)) .1 in
-            omega arith
-
-        -- one structure more
-        pub structures-taken : {w end next o₁ : ℕ} {ys out₁ : List ℕ} → w ≡ wrapping sys → end ≡ at + (dc + 6)
-            → ys ≡ structureOf (getD ls (2 * k) 0) w (getD ls (2 * k + 1) 0) (take (end - (at + 3)) (drop (at + 3) ws))
-            → out₁ ≡ take o out ++ (ys ++ drop (next - o) (drop o out)) → o₁ ≡ next → next ≡ o + (dc + 17)
-            → length ys ≡ length (take (next - o) (drop o out))
-            → Structures sys fi ls ws out₁ (k + 1) (end + 1) o₁
-        structures-taken {w} {end} {next} {o₁} {ys} {out₁} ew ee ey eo e₁ en kept = record {
-          of = λ y ps h. go y ps (so .of y ps h) (structures-next y ps h);
-        }
-          where
-            go : (y : System) (ps : List Packet) (f : StructuresLeft sys fi y ps ls ws out k at o) → Next y ls ws (2 * k) at (f .left)
-                → StructuresLeft sys fi y ps ls ws out₁ (k + 1) (end + 1) o₁
-            go y ps f n =
-                let p : Packet = n .packet in
-                let qs : List Packet = n .rest in
-                let v = taken-next y ps f n in
-                let d : dc ≡ length (p .user) = size ∙ n .dc in
-                let e : end + 1 ≡ at + bytesOf p = omega arith in
-                let turn : 2 * (k + 1) ≡ 2 * k + 2 = omega arith in
-                let s : take (end - (at + 3)) (drop (at + 3) ws) ≡ coded p =
-                coded-there p (allWords qs) ws at (end - (at + 3)) (n .there) (omega arith) in
-                let z : ys ≡ structure sys (bare p) = ey ∙ rw (ew, n .line, n .flags, s) (structure-is sys y p (n .sound)) in
-                let l : length ys ≡ dc + 17 = ap length z ∙ (let m = structure-length sys (bare p) in omega arith) in
-                let q = f .room in
-                let r = v .1 in
-                let m = structures-kept ys eo e₁ kept in
-                let x : take o₁ out₁ ≡ take o out ++ ys =
-                ap₂ (λ (m : ℕ) (u : List ℕ). take m u) e₁ eo ∙ part-front o (next - o) next out ys (omega arith) (omega arith) in
-                record {
-                  left = qs;
-                  is = rw (turn, e) (n .after);
-                  room = omega arith;
-                  laid =
-                      ap (λ (u : List ℕ). u ++ structuresOf sys (served sys fi qs)) x
-                      ∙ append-assoc (take o out) ys (structuresOf sys (served sys fi qs))
-                      ∙ ap (λ (u : List ℕ). take o out ++ (u ++ structuresOf sys (served sys fi qs))) z
-                      ∙ ap (λ (rs : List Packet). take o out ++ structuresOf sys rs) (sym (v .0))
-                      ∙ f .laid;
-                }
-
-      -- one that is passed over
-      pub structures-left : {end o₁ : ℕ} {out₁ : List ℕ} → b ≡ false → end ≡ at + (dc + 6) → out₁ ≡ out → o₁ ≡ o
-          → Structures sys fi ls ws out₁ (k + 1) (end + 1) o₁
-      structures-left {end} {o₁} {out₁} t ee eo e₁ = record { of = λ y ps h. go y ps (so .of y ps h) (structures-next y ps h) }
-        where
-          go : (y : System) (ps : List Packet) (f : StructuresLeft sys fi y ps ls ws out k at o) → Next y ls ws (2 * k) at (f .left)
-              → StructuresLeft sys fi y ps ls ws out₁ (k + 1) (end + 1) o₁
-          go y ps f n =
-              let p : Packet = n .packet in
-              let qs : List Packet = n .rest in
-              let s : serves sys fi (p .flags) ≡ false = ap (serves sys fi) (sym (n .flags)) ∙ sym is ∙ t in
-              let v : served sys fi (f .left) ≡ served sys fi qs = ap (served sys fi) (n .is) ∙ served-left sys fi p qs s in
-              let d : dc ≡ length (p .user) = size ∙ n .dc in
-              let e : end + 1 ≡ at + bytesOf p = omega arith in
-              let turn : 2 * (k + 1) ≡ 2 * k + 2 = omega arith in
-              record {
-                left = qs;
-                is = rw (turn, e) (n .after);
-                room = rw (e₁, eo, ← v) (f .room);
-                laid = rw (e₁, eo, ← v) (f .laid);
-              }
+-- so it is that of the next packet
+pub structure-next : (sys k : ℕ) {ls ws ys : List ℕ} {at dc end w : ℕ} → dc ≡ low (getD ws (at + 5) 0) → w ≡ wrapping sys → end ≡ at + (dc + 6)
+    → ys ≡ structureOf (getD ls (2 * k) 0) w (getD ls (2 * k + 1) 0) (take (end - (at + 3)) (drop (at + 3) ws))
+    → (y : System) (left : List Packet) (n : Next y ls ws (2 * k) at left) → ys ≡ structure sys (bare (n .packet))
+structure-next sys k {ls} {ws} {ys} {at} {dc} {end} {w} size ew ee ey y left n =
+    let p : Packet = n .packet in
+    let d : dc ≡ length (p .user) = size ∙ n .dc in
+    let s : take (end - (at + 3)) (drop (at + 3) ws) ≡ coded p =
+    coded-there p (allWords (n .rest)) ws at (end - (at + 3)) (n .there) (omega arith) in
+    ey ∙ rw (ew, n .line, n .flags, s) (structure-is sys y p (n .fine))
 
 -- ---- the head
 
@@ -466,166 +155,95 @@ head-put packets v out {o1} {o2} {o3} room short ev e1 e2 e3 n long =
     ∙ ap₂ (λ (a b : List ℕ). a ++ b) (f3 .stored) (f3 .behind)
     ∙ ap (λ (t : List ℕ). (key ++ 0x83 ∷ t ++ two packets) ++ drop 22 out) e
 
--- ---- the element
+-- ---- the writer
 
-pub element-room : (sys : ℕ) (ps : List Packet) (n : ℕ) → n ≡ length (elementOf sys ps) → n ≡ 22 + length (structuresOf sys ps)
-element-room sys ps n e = e ∙ element-length sys ps
+pub element-made : (sys : ℕ) (ps : List Packet) → elementOf sys ps ≡ klv (two (length (map bare ps)) ++ joined (structure sys) (map bare ps))
+unfolding element value
+element-made sys ps = refl
 
-pub element-put : (sys packets : ℕ) (ps : List Packet) (out o1 ys : List ℕ) → packets ≡ length ps → length out ≡ length (elementOf sys ps)
-    → ((n : ℕ) → length out ≡ 20 + n → o1 ≡ (key ++ 0x83 ∷ three n ++ two packets) ++ drop 22 out) → ys ≡ structuresOf sys ps
-    → take 22 o1 ++ (ys ++ drop (length o1 - 22) (drop 22 o1)) ≡ elementOf sys ps
-unfolding element value key
-element-put sys packets ps out o1 ys ep long head ey =
-    let n : ℕ = length (value sys (map bare ps)) in
-    let h : length out ≡ 20 + n = long ∙ (let e : length (elementOf sys ps) ≡ 20 + n = omega arith in e) in
-    let f : take 22 o1 ≡ key ++ 0x83 ∷ three n ++ two packets =
-    ap (take 22) (head n h) ∙ take-at (key ++ 0x83 ∷ three n ++ two packets) (drop 22 out) 22 refl in
-    let k : length (drop 22 o1) ≤ length o1 - 22 = let d = length-drop 22 o1 in omega arith in
-    let none : drop (length o1 - 22) (drop 22 o1) ≡ [] = drop-of-length-le (drop 22 o1) k in
-    let m : packets ≡ length (map bare ps) = ep ∙ sym (length-map ps bare) in
-    ap₂ (λ (a b : List ℕ). a ++ (ys ++ b)) f none
-    ∙ ap (λ (t : List ℕ). (key ++ 0x83 ∷ three n ++ two packets) ++ t) (append-nil ys ∙ ey)
-    ∙ ap (λ (p : ℕ). (key ++ 0x83 ∷ three n ++ two p) ++ structuresOf sys ps) m
+pub structure-sized : (sys : ℕ) (p : Packet) → length (structure sys (bare p)) ≡ 14 + length (p .user) + 3
+structure-sized sys p = let b = structure-length sys (bare p) in omega arith
 
--- ---- 18 and 17
+pub word-none : (ws : List ℕ) (i : ℕ) → (wordIn ws (refused 18 i) ≡ 0) × (wordIn ws (refused 17 i) ≡ 0)
+unfolding wordAt
+word-none ws i = (refl, refl)
 
--- 18 is the one refusal of an export
-lined-number : (sys : ℕ) (fi : Bool) (i : ℕ) (ps qs : List Packet) → writtenOf sys (lined sys fi i ps (listed qs)) .number ≡ 0
-    → lined sys fi i ps (listed qs) ≡ listed qs
-lined-number sys fi i [] qs e = refl
-lined-number sys fi i (p ∷ ps) qs e = go (serves sys fi (p .flags) && eqb (p .line) 0) (lined-number sys fi (suc i) ps qs) e
-  where
-    go : (b : Bool) {later : Outcome} → (writtenOf sys later .number ≡ 0 → later ≡ listed qs)
-        → writtenOf sys (cond b (refused 18 i) later) .number ≡ 0
-        → cond b (refused 18 i) later ≡ listed qs
-    go true rest e = absurd (omega arith)
-    go false rest e = rest e
-
-structures-short : (sys : ℕ) (fi : Bool) (y : System) (ps : List Packet) → All (Sound y) ps
-    → length (structuresOf sys (served sys fi ps)) ≤ 272 * length ps
-structures-short sys fi y ps g =
-    let f = served-few sys fi ps .0 in
-    let h = joined-short sys fi y (served sys fi ps) (served-sound sys fi (Sound y) ps g) in
-    omega arith
-
--- what is asked of a result and a buffer
-abbrev Given : ℕ → List ℕ → Outcome → ElementWritten → List ℕ → Type 0
-Given sys buffer o r after =
-    (r ≡ writtenOf sys (withRoom sys (length buffer) o)) × (after ≡ elementIn sys buffer (withRoom sys (length buffer) o))
-
--- 18
-refused-first : (sys : ℕ) (buffer : List ℕ) (o : Outcome) (r : ElementWritten) → r ≡ writtenOf sys o → (r .number ≡ 0 → ⊥)
-    → Given sys buffer o r buffer
-refused-first sys buffer (listed ps) r e n = absurd (n (ap (λ (x : ElementWritten). x .number) e))
-refused-first sys buffer (refused m i) r e n = (e, refl)
-
--- from the sections of a sheet, and what is measured of them
-module _ (sys : ℕ) (fi : Bool) (s buffer : List ℕ) {ls ws : List ℕ} (b : ls ≡ locationsIn s) (c : ws ≡ wordsIn s) (m : ElementWritten)
-    (e : (y : System) (ps : List Packet) → SectionsOf y ps ls ws → m ≡ writtenOf sys (export sys fi ps)) where
-  abbrev Answers : ElementWritten → List ℕ → Type 0
-  Answers r after = (ps : List Packet) → SheetOf sys ps s → Given sys buffer (export sys fi ps) r after
-
-  pub not-lined : (m .number ≡ 0 → ⊥) → Answers m buffer
-  not-lined n ps h = refused-first sys buffer (export sys fi ps) m (e (system sys) ps (sections-of b c h)) n
-
-  module _ (z : m .number ≡ 0) where
-    -- all that are served have lines
-    all-lined : (y : System) (ps : List Packet) → SectionsOf y ps ls ws
-        → (export sys fi ps ≡ listed (served sys fi ps)) × (m ≡ writtenOf sys (listed (served sys fi ps)))
-    all-lined y ps h =
-        let n : writtenOf sys (export sys fi ps) .number ≡ 0 = ap (λ (x : ElementWritten). x .number) (sym (e y ps h)) ∙ z in
-        let l : export sys fi ps ≡ listed (served sys fi ps) = lined-number sys fi 0 ps (served sys fi ps) n in
-        (l, e y ps h ∙ ap (writtenOf sys) l)
-
-    -- 17
-    pub no-room : (r : ElementWritten) → length buffer < m .bytes → r ≡ writtenOf 0 (refused 17 0) → Answers r buffer
-    no-room r over q ps h =
-        let a = all-lined (system sys) ps (sections-of b c h) in
-        let n : m .bytes ≡ length (elementOf sys (served sys fi ps)) = ap (λ (x : ElementWritten). x .bytes) (a .1) in
-        rw (a .0, lt-leb (length (elementOf sys (served sys fi ps))) (length buffer) (omega arith)) (q, refl)
-
-    -- the figures of the measure are the element's
-    pub measured : (y : System) (ps : List Packet) → SectionsOf y ps ls ws
-        → (m .packets ≡ length (served sys fi ps)) × (m .bytes ≡ length (elementOf sys (served sys fi ps)))
-    measured y ps h =
-        let a = all-lined y ps h .1 in
-        (ap (λ (x : ElementWritten). x .packets) a, ap (λ (x : ElementWritten). x .bytes) a)
-
-    -- and they are small
-    pub measured-small : (ps : List Packet) → SheetOf sys ps s → (m .packets ≤ limit) × (m .bytes < 16777216)
-    unfolding limit
-    measured-small ps h =
-        let a = measured (system sys) ps (sections-of b c h) in
-        let f = h .few in
-        let v = served-few sys fi ps in
-        let l = structures-short sys fi (system sys) ps (h .sound) in
-        let w = element-length sys (served sys fi ps) in
-        (let g = a .0 in omega arith, let g = a .1 in omega arith)
-
-    pub element-written : (ys : List ℕ) → m .bytes ≤ length buffer
-        → ((y : System) (ps : List Packet) → SectionsOf y ps ls ws → ys ≡ elementOf sys (served sys fi ps))
-        → Answers m (ys ++ drop (m .bytes) buffer)
-    element-written ys fit put ps h =
-        let v = sections-of b c h in
-        let a = all-lined (system sys) ps v in
-        let n = measured (system sys) ps v .1 in
-        rw (a .0, le-leb (length (elementOf sys (served sys fi ps))) (length buffer) (omega arith))
-        (a .1, ap₂ (λ (t : List ℕ) (n : ℕ). t ++ drop n buffer) (put (system sys) ps v) n)
+-- sound packets, in samples of 8 bits
+abbrev pub eights : Writer
+eights = record {
+  Of = SectionsOf;
+  Fine = Sound;
+  all = λ y ps ls ws h. left-all y ls ws ps h;
+  many = λ y p g. g .many;
+  Item = Padded;
+  item = bare;
+  bytes = structure;
+  size = λ (dc : ℕ). 14 + dc + 3;
+  sized = structure-sized;
+  slight = λ dc. omega arith;
+  make = elementOf;
+  made = element-made;
+  Sheet = SheetOf;
+  few = λ sys ps s g. g .few;
+  whole = λ sys ps s g. g .whole;
+  sections = λ sys ps s ls ws b c g. sections-of b c g;
+  unique = sheet-unique;
+  tests = sheetTests;
+  read = sheet-read;
+  laid = sheet-laid;
+  refuses = sheet-refused;
+  word = wordIn;
+  word-none = λ ws ps. refl;
+  word-18 = λ ws i. word-none ws i .0;
+  word-17 = λ ws i. word-none ws i .1;
+}
 
 -- ---- the lister's tests
 
--- the two equations of the contract
-abbrev pub Answered : Bool → List ℕ → List ℕ → ElementWritten → List ℕ → Type 0
-Answered fi s buffer r after = (r ≡ write fi s buffer) × (after ≡ elementAfter fi s buffer)
+module _ (s : List ℕ) (t : Tested) (w : Tests s t) where
+  answer-is : (o : Outcome) → sheetTests s ≡ o → t ≡ testedIn (systemIn s) (wordsIn s) o
+  unfolding tested
+  answer-is o q = w .answer ∙ ap (testedIn (systemIn s) (wordsIn s)) q
 
--- 18 and 17 name no word
-no-word : (sys : ℕ) (ws : List ℕ) (o : Outcome) → wordIn ws o ≡ 0 → writtenOf sys o ≡ writtenIn sys ws o
-no-word sys ws (listed ps) e = refl
-no-word sys ws (refused n i) e = ap (λ (w : ℕ). writtenWith w (writtenOf sys (refused n i))) (sym e)
+  pub lister-named : Named eights s (t .number) (t .place) (t .word)
+  lister-named = record {
+    passed = λ ps q. ap (λ (x : Tested). x .number) (answer-is (listed ps) q);
+    named = λ n i q.
+        let a = answer-is (refused n i) q in
+        (ap (λ (x : Tested). x .number) a, ap (λ (x : Tested). x .place) a, ap (λ (x : Tested). x .word) a);
+  }
 
-export-word : (sys room : ℕ) (fi : Bool) (ws : List ℕ) (i : ℕ) (ps qs : List Packet)
-    → wordIn ws (withRoom sys room (lined sys fi i ps (listed qs))) ≡ 0
-unfolding wordAt
-export-word sys room fi ws i [] qs = go (leb (length (elementOf sys qs)) room)
-  where
-    go : (b : Bool) → wordIn ws (unless 17 b (listed qs)) ≡ 0
-    go true = refl
-    go false = refl
-export-word sys room fi ws i (p ∷ ps) qs =
-    go (serves sys fi (p .flags) && eqb (p .line) 0) (lined sys fi (suc i) ps (listed qs)) (export-word sys room fi ws (suc i) ps qs)
-  where
-    go : (b : Bool) (later : Outcome) → wordIn ws (withRoom sys room later) ≡ 0 → wordIn ws (withRoom sys room (cond b (refused 18 i) later)) ≡ 0
-    go true later e = refl
-    go false later e = e
+  -- the sheet is that of a list, in the system that the tests name
+  pub sheet-of : t .number ≡ 0 → (ps : List Packet) × SheetOf (t .system) ps s
+  sheet-of z =
+      let o = w .only z in
+      let e : t .system ≡ o .0 = ap (λ (x : Tested). x .system) (w .passes (o .0) (o .1) (o .2)) in
+      (o .1, rw e (o .2))
 
-module _ (fi : Bool) (s buffer : List ℕ) (t : Tested) (w : Tests s t) where
-  pub no-sheet : (r : ElementWritten) → (t .number ≡ 0 → ⊥) → r ≡ writtenWith (t .word) (writtenOf 0 (refused (t .number) (t .place)))
-      → Answered fi s buffer r buffer
-  unfolding write elementAfter writing tested
-  no-sheet r n e = go (sheetTests s) refl (w .answer)
-    where
-      go : (o : Outcome) → sheetTests s ≡ o → t ≡ testedIn (systemIn s) (wordsIn s) o
-          → (r ≡ writtenIn (systemIn s) (wordsIn s) (withRoom (systemIn s) (length buffer) (andThen o (export (systemIn s) fi))))
-          × (buffer ≡ elementIn (systemIn s) buffer (withRoom (systemIn s) (length buffer) (andThen o (export (systemIn s) fi))))
-      go (listed ps) q a = absurd (n (ap (λ (x : Tested). x .number) a))
-      go (refused k i) q a = (e ∙ ap (λ (x : Tested). writtenWith (x .word) (writtenOf 0 (refused (x .number) (x .place)))) a, refl)
+-- ---- the contract
 
-  module _ (z : t .number ≡ 0) where
-    -- the sheet is that of a list, in the system that the tests name
-    pub sheet-of : (ps : List Packet) × SheetOf (t .system) ps s
-    sheet-of =
-        let o = w .only z in
-        let e : t .system ≡ o .0 = ap (λ (x : Tested). x .system) (w .passes (o .0) (o .1) (o .2)) in
-        (o .1, rw e (o .2))
-
-    pub the-list : (r : ElementWritten) (after : List ℕ)
-        → ((ps : List Packet) → SheetOf (t .system) ps s → Given (t .system) buffer (export (t .system) fi ps) r after)
-        → Answered fi s buffer r after
-    unfolding write elementAfter writing
-    the-list r after g =
-        let o = sheet-of in
-        let y : systemIn s ≡ t .system = ap systemIn (o .1 .whole) ∙ system-back (t .system) (o .0) in
-        let d = g (o .0) (o .1) in
-        let none = export-word (t .system) (length buffer) fi (wordsIn s) 0 (o .0) (served (t .system) fi (o .0)) in
-        let same = no-word (t .system) (wordsIn s) (withRoom (t .system) (length buffer) (export (t .system) fi (o .0))) none in
-        rw (sheet-read (t .system) (o .0) s (o .1), y) (d .0 ∙ same, d .1)
+-- the contract of writing follows from its first two fields, over a sheet of sixteen-bit numbers
+pub writes : (fi : Bool) (s target : List ℕ) (r : ElementWritten) (after : List ℕ) → Sixteen s → Answered eights fi s target r after
+    → Writes fi s target r after
+unfolding write elementAfter writing
+writes fi s target r after hs e =
+    record {
+      answer = e .0;
+      buffer = e .1;
+      demand1 = unwritten eights fi s target r after (e .0) (e .1);
+      exports =
+          record {
+            written = λ sys ps x.
+                sent-written eights fi s target r after (e .0) (e .1) sys ps
+                (record { sheet = x .sheet; lined = x .lined; room = x .room });
+            only = λ n.
+                let x = sent-only eights fi s target r after (e .0) (e .1) n in
+                (x .0, x .1, record { sheet = x .2 .sheet; lined = x .2 .lined; room = x .2 .room });
+          };
+      comesBack =
+          record {
+            back = λ sys ps sheet g n h.
+                let x = sent-back eights fi s target r after (e .0) (e .1) sys ps g n in
+                comes-back fi s hs sys ps g (x .0) (take (r .bytes) after) sheet (x .1) h;
+          };
+    }

@@ -14,6 +14,7 @@ pub use judging::two;
 pub use reading::allowed;
 pub use reading::read;
 pub use reading::write_locations;
+pub use writing::put_fields;
 pub use writing::put_head;
 pub use writing::serves;
 pub use writing::write;

@@ -112,22 +112,31 @@ fn coding_of(flags: u16) -> u8
     crate::COLOUR
 }
 
+// The fields of a structure before its array's bytes (004, table 7). These are few: the high halves of the array's count and element length
+// are 0.
+pub fn put_fields(line: Line, wrapping: u8, coding: u8, samples: u16, array: u16, out: &mut [u8])
+    requires { ⌜ 14 ≤ length (now out) ⌝ }
+    ensures { λ _. ⌜ now (out .exit) ≡ sets (now (out .entry)) 0 (two (line .0) ++ wrapping ∷ coding ∷ two samples ++ four array ++ four 1) ⌝ }
+{
+    put_two(out, 0, line.0);
+    out[2] = wrapping;
+    out[3] = coding;
+    put_two(out, 4, samples);
+    put_two(out, 6, 0);
+    put_two(out, 8, array);
+    put_two(out, 10, 0);
+    put_two(out, 12, 1);
+}
+
 // A packet's structure (004, table 7) of its words from DID to the last user word. Without padding (B.5) the array has as many bytes as
-// there are samples, and these are few: the high halves of the array's count and element length are 0.
+// there are samples.
 fn put_structure(line: Line, wrapping: u8, flags: u16, ws: &[u16], out: &mut [u8])
     requires { ⌜ (length (now ws) ≤ 258) × (length (now out) ≡ 14 + length (now ws)) ⌝ }
     ensures { λ _. ⌜ now (out .exit) ≡ two (line .0) ++ wrapping ∷ coding flags ∷ two (length (now (ws .entry)))
         ++ four (length (now (ws .entry))) ++ four 1 ++ map low (now (ws .entry)) ⌝ }
 {
     let samples = ws.len() as u16;
-    put_two(out, 0, line.0);
-    out[2] = wrapping;
-    out[3] = coding_of(flags);
-    put_two(out, 4, samples);
-    put_two(out, 6, 0);
-    put_two(out, 8, samples);
-    put_two(out, 10, 0);
-    put_two(out, 12, 1);
+    put_fields(line, wrapping, coding_of(flags), samples, samples, out);
     put_samples(ws, &mut out[crate::FIELDS..]);
 }
 

@@ -9,8 +9,10 @@ ghost use Rattle.mxf.specs.Judging.{arrayFor};
 mod judging;
 mod reading;
 mod tens;
+mod writing;
 
 pub use reading::read;
+pub use writing::write;
 
 // 004, table 7, sample coding: 10-bit luma samples, 10-bit color difference samples.
 const LUMA: u8 = 7;

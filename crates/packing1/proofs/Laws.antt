@@ -327,8 +327,8 @@ module _ {ls ws us₀ us : List ℕ} {k at o : ℕ} (so : FivesSoFar ls ws us₀
             let s = size-next size y ps f n in
             let l = pack-bytes p in
             let is : packetFives dc h0 h1 (map low (take (dc + 4) (drop (at + 3) ws))) ≡ packs (written p) =
-            ap₂ (λ (m : ℕ) (t : List ℕ). packetFives m h0 h1 t) d (body-there y p (n .sound) ws (allWords qs) at dc (n .there) d)
-            ∙ packs-of y p (n .sound) h0 h1 (header-next y (h .last) n e0 e1) in
+            ap₂ (λ (m : ℕ) (t : List ℕ). packetFives m h0 h1 t) d (body-there y p (n .fine) ws (allWords qs) at dc (n .there) d)
+            ∙ packs-of y p (n .fine) h0 h1 (header-next y (h .last) n e0 e1) in
             let to : next ≡ o + length (flat (packs (written p))) = omega arith in
             record {
               left = qs;

@@ -92,55 +92,54 @@ module _ (y : System) (p : Packet) (g : Sound y p) where
 
 -- ---- the packets that are left
 
--- at these places of the sections stand the packets that are left
-pub record Left (y : System) (ls ws : List ℕ) (k at : ℕ) (left : List Packet) : Type 0 where
-  pub sound : All (Sound y) left
+-- at these places of the sections stand the packets that are left, and P holds of each
+pub record LeftBy (P : Packet → Type 0) (ls ws : List ℕ) (k at : ℕ) (left : List Packet) : Type 0 where
+  pub each : All P left
   pub pairs : drop k ls ≡ locations left
   pub there : drop at ws ≡ allWords left
 
 -- the next of them, and those that are left then
-pub record Next (y : System) (ls ws : List ℕ) (k at : ℕ) (left : List Packet) : Type 0 where
+pub record NextBy (P : Packet → Type 0) (ls ws : List ℕ) (k at : ℕ) (left : List Packet) : Type 0 where
   pub packet : Packet
   pub rest : List Packet
   pub is : left ≡ packet ∷ rest
-  pub sound : Sound y packet
+  pub fine : P packet
   pub pair : k + 2 ≤ length ls
   pub line : getD ls k 0 ≡ packet .line
   pub flags : getD ls (k + 1) 0 ≡ packet .flags
   pub there : drop at ws ≡ words packet ++ allWords rest
   pub within : at + bytesOf packet ≤ length ws
   pub dc : low (getD ws (at + 5) 0) ≡ length (packet .user)
-  pub after : Left y ls ws (k + 2) (at + bytesOf packet) rest
+  pub after : LeftBy P ls ws (k + 2) (at + bytesOf packet) rest
 
-first-of : (y : System) (p : Packet) (ps : List Packet) → All (Sound y) (p ∷ ps) → Sound y p × All (Sound y) ps
-first-of y p ps (one g gs) = (g, gs)
+first-of : (P : Packet → Type 0) (p : Packet) (ps : List Packet) → All P (p ∷ ps) → P p × All P ps
+first-of P p ps (one g gs) = (g, gs)
 
-module _ (y : System) (ls ws : List ℕ) where
-  pub left-all : (ps : List Packet) → SectionsOf y ps ls ws → Left y ls ws 0 0 ps
-  left-all ps h = record { sound = h .sound; pairs = h .sectionB; there = h .sectionC }
+module _ (P : Packet → Type 0) (ls ws : List ℕ) where
+  pub left-none-by : (k at : ℕ) (left : List Packet) → LeftBy P ls ws k at left → length ls ≤ k → left ≡ []
+  left-none-by k at [] l h = refl
+  left-none-by k at (p ∷ qs) l h = absurd (let d = length-drop k ls in let m = ap length (l .pairs) in omega arith)
 
-  pub left-none : (k at : ℕ) (left : List Packet) → Left y ls ws k at left → length ls ≤ k → left ≡ []
-  left-none k at [] l h = refl
-  left-none k at (p ∷ qs) l h = absurd (let d = length-drop k ls in let m = ap length (l .pairs) in omega arith)
-
-  pub next-of : (k at : ℕ) (left : List Packet) → Left y ls ws k at left → k < length ls → Next y ls ws k at left
-  next-of k at [] l h = absurd (let d = length-drop k ls in let m = ap length (l .pairs) in omega arith)
-  next-of k at (p ∷ qs) l h =
-      let g = first-of y p qs (l .sound) in
+  -- DC's low byte says how many user words there are: 255 at most
+  pub next-of-by : ((p : Packet) → P p → length (p .user) < 256) → (k at : ℕ) (left : List Packet) → LeftBy P ls ws k at left → k < length ls
+      → NextBy P ls ws k at left
+  next-of-by many k at [] l h = absurd (let d = length-drop k ls in let m = ap length (l .pairs) in omega arith)
+  next-of-by many k at (p ∷ qs) l h =
+      let g = first-of P p qs (l .each) in
       let z : k ≡ k + 0 = omega arith in
       record {
         packet = p;
         rest = qs;
         is = refl;
-        sound = g .0;
+        fine = g .0;
         pair = let d = length-drop k ls in let m = ap length (l .pairs) in omega arith;
         line = ap (λ (n : ℕ). getD ls n 0) z ∙ sym (getD-drop k ls 0 0) ∙ ap (λ (t : List ℕ). getD t 0 0) (l .pairs);
         flags = sym (getD-drop k ls 1 0) ∙ ap (λ (t : List ℕ). getD t 1 0) (l .pairs);
         there = l .there;
         within = packet-there ws at p (allWords qs) (l .there);
-        dc = dc-there ws at p (allWords qs) (g .0 .many) (l .there);
+        dc = dc-there ws at p (allWords qs) (many p (g .0)) (l .there);
         after = record {
-          sound = g .1;
+          each = g .1;
           pairs = sym (drop-drop 2 k ls) ∙ ap (drop 2) (l .pairs);
           there =
               sym (drop-drop (bytesOf p) at ws)
@@ -150,17 +149,42 @@ module _ (y : System) (ls ws : List ℕ) where
       }
 
   -- the next packet stands in the sections, its DC and its location too
-  pub next-inside : (k at : ℕ) (left : List Packet) → Next y ls ws k at left
+  pub next-inside-by : (k at : ℕ) (left : List Packet) → NextBy P ls ws k at left
       → (at + (low (getD ws (at + 5) 0) + 7) ≤ length ws) × (k + 2 ≤ length ls)
-  next-inside k at left n = let w = n .within in let d = n .dc in (omega arith, n .pair)
+  next-inside-by k at left n = let w = n .within in let d = n .dc in (omega arith, n .pair)
 
   -- its DC + 7 words, and behind them those that are left then
-  module _ (k at dc : ℕ) (left : List Packet) (n : Next y ls ws k at left) (size : dc ≡ low (getD ws (at + 5) 0)) where
+  module _ (k at dc : ℕ) (left : List Packet) (n : NextBy P ls ws k at left) (size : dc ≡ low (getD ws (at + 5) 0)) where
     next-ends : at + (dc + 7) ≡ at + bytesOf (n .packet)
     next-ends = let d = n .dc in omega arith
 
-    pub next-after : Left y ls ws (k + 2) (at + (dc + 7)) (n .rest)
-    next-after = rw next-ends (n .after)
+    pub next-after-by : LeftBy P ls ws (k + 2) (at + (dc + 7)) (n .rest)
+    next-after-by = rw next-ends (n .after)
+
+-- the same of sound packets
+abbrev pub Left : System → List ℕ → List ℕ → ℕ → ℕ → List Packet → Type 0
+Left y ls ws k at left = LeftBy (Sound y) ls ws k at left
+
+abbrev pub Next : System → List ℕ → List ℕ → ℕ → ℕ → List Packet → Type 0
+Next y ls ws k at left = NextBy (Sound y) ls ws k at left
+
+module _ (y : System) (ls ws : List ℕ) where
+  pub left-all : (ps : List Packet) → SectionsOf y ps ls ws → Left y ls ws 0 0 ps
+  left-all ps h = record { each = h .sound; pairs = h .sectionB; there = h .sectionC }
+
+  pub left-none : (k at : ℕ) (left : List Packet) → Left y ls ws k at left → length ls ≤ k → left ≡ []
+  left-none k at left l h = left-none-by (Sound y) ls ws k at left l h
+
+  pub next-of : (k at : ℕ) (left : List Packet) → Left y ls ws k at left → k < length ls → Next y ls ws k at left
+  next-of k at left l h = next-of-by (Sound y) ls ws (λ p g. g .many) k at left l h
+
+  pub next-inside : (k at : ℕ) (left : List Packet) → Next y ls ws k at left
+      → (at + (low (getD ws (at + 5) 0) + 7) ≤ length ws) × (k + 2 ≤ length ls)
+  next-inside k at left n = next-inside-by (Sound y) ls ws k at left n
+
+  pub next-after : (k at dc : ℕ) (left : List Packet) (n : Next y ls ws k at left) → dc ≡ low (getD ws (at + 5) 0)
+      → Left y ls ws (k + 2) (at + (dc + 7)) (n .rest)
+  next-after k at dc left n size = next-after-by (Sound y) ls ws k at dc left n size
 
 -- ---- their header bytes
 
@@ -175,8 +199,8 @@ headByte1 line flags = flags % 2 * 128 + 96 + flags / 2 % 2 * 16 + line / 128 % 
 pub header-next : (y : System) → y .last < 2047 → {ls ws : List ℕ} {k at : ℕ} {left : List Packet} (n : Next y ls ws k at left) {h0 h1 : ℕ}
     → h0 ≡ headByte0 (getD ls k 0) → h1 ≡ headByte1 (getD ls k 0) (getD ls (k + 1) 0) → header (written (n .packet)) ≡ h0 ∷ h1 ∷ 0xFF ∷ []
 header-next y hm n e0 e1 =
-    let l = allowed-last y (n .packet .line) (n .sound .line) in
-    rw (e0, e1, n .line, n .flags) (header-written (n .packet) (omega arith) (n .sound .flags))
+    let l = allowed-last y (n .packet .line) (n .fine .line) in
+    rw (e0, e1, n .line, n .flags) (header-written (n .packet) (omega arith) (n .fine .flags))
 
 -- ---- a loop that lays headers
 
@@ -271,7 +295,7 @@ module _ {ls ws s₀ s : List ℕ} {k at : ℕ} (so : HeadsSoFar ls ws s₀ s k 
               left = qs;
               is = next-after y ls ws k at dc (f .left) n size;
               front = f .front ++ danc (written p);
-              long = let w = next-ends y ls ws k at dc (f .left) n size in omega arith;
+              long = let w = next-ends (Sound y) ls ws k at dc (f .left) n size in omega arith;
               goal =
                   append-assoc (f .front) (danc (written p)) (string (map written qs))
                   ∙ ap (λ (t : List Packet). f .front ++ string (map written t)) (sym (n .is))
@@ -283,7 +307,7 @@ module _ {ls ws s₀ s : List ℕ} {k at : ℕ} (so : HeadsSoFar ls ws s₀ s k 
                   ∙ set-over before (set v at h0) 0 (at + 1) (at + 1) h1 (omega arith) (omega arith)
                   ∙ ap (sets before 0)
                   (ap (λ (m : ℕ). set (set v m h0) (m + 1) h1) (sym (f .long))
-                  ∙ header-over y p (n .sound) (f .front) (allWords qs) h0 h1 (header-next y (h .last) n e0 e1));
+                  ∙ header-over y p (n .fine) (f .front) (allWords qs) h0 h1 (header-next y (h .last) n e0 e1));
             }
 
   -- all headers are laid

@@ -7,7 +7,7 @@ use native.Mathlib.Omega.{arith}
 use lib.ListN.{length, getD}
 use borrow.Author.Needs.{needs}
 use Rattle.rules.specs.Laying.{low}
-use Rattle.mxf.proofs.WritingLaws.{
+use Rattle.mxf.proofs.Writers.{
   Measuring,
   measure-begin,
   measure-inside,
@@ -16,12 +16,13 @@ use Rattle.mxf.proofs.WritingLaws.{
   measure-left,
   measure-done,
 }
+use Rattle.mxf.proofs.WritingLaws.{eights}
 use Rattle.mxf.proofs.writing.measure.Statement.{statement}
 use Rattle.mxf.proofs.writing.measure.Tie as tie
 
 abbrev Inv-loop : tie.InvT-loop
 Inv-loop system fi ls ws k₀ at₀ packets₀ bytes₀ k at packets bytes =
-    (2 * k ≤ length ls) × (at ≤ length ws) × Measuring system fi ls ws k at packets bytes
+    (2 * k ≤ length ls) × (at ≤ length ws) × Measuring eights system fi ls ws k at packets bytes
 
 abbrev μ-loop : tie.MeasureT-loop
 μ-loop system fi ls ws k₀ at₀ packets₀ bytes₀ k at packets bytes = length ls - 2 * k
@@ -31,7 +32,9 @@ inside : (c : tie.In-loop Inv-loop μ-loop)
     → let a = c .before .before .before .before .args in
     let at = c .before .loop .at in
     (at + (low (getD (a .ws .now) (at + 5) 0) + 7) ≤ length (a .ws .now)) × (2 * c .before .loop .k + 2 ≤ length (a .ls .now))
-inside c = measure-inside (c .before .loop .inv .2) (c .loop-test .taken) (c .before .before .before .before .pre)
+inside c =
+    let s = c .before .before .before .before .pre in
+    measure-inside (c .before .loop .inv .2) (c .loop-test .taken) (s .system) (s .packets) (s .of)
 
 loop-holds : tie.Need-loop-holds Inv-loop μ-loop
 loop-holds c = (omega arith, omega arith, measure-begin)

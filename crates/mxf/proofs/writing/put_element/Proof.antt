@@ -7,7 +7,8 @@ use lib.ListN.{length}
 use borrow.Author.Needs.{needs}
 use Rattle.mxf.specs.Served.{served}
 use Rattle.sheet.proofs.Filling.{part-kept}
-use Rattle.mxf.proofs.WritingLaws.{lent-long, structuresOf, element-room, element-put}
+use Rattle.mxf.proofs.Writers.{lent-long, structuresBy, element-room, element-put}
+use Rattle.mxf.proofs.WritingLaws.{eights}
 use Rattle.mxf.proofs.writing.put_element.Statement.{statement}
 use Rattle.mxf.proofs.writing.put_element.Tie as tie
 
@@ -16,7 +17,7 @@ room : (c : tie.Start) → (22 ≤ length (c .args .out .now)) × (length (c .ar
 room c =
     let p = c .pre .0 in
     let g = c .pre .1 (p .system) (p .packets) (p .of) in
-    let l = element-room (c .args .system) (served (c .args .system) (c .args .fi) (p .packets)) _ (g .1) in
+    let l = element-room eights (c .args .system) (served (c .args .system) (c .args .fi) (p .packets)) _ (g .1) in
     (omega arith, g .2)
 
 -- and it keeps its length
@@ -44,8 +45,8 @@ put-structures-requires c κs =
     let s = t .before .before .before .before .before in (
       s .pre .0,
       λ y ps h.
-          lent-long 22 (t .put-head .last .1 .0) (structuresOf (s .args .system) (served (s .args .system) (s .args .fi) ps))
-          (long t ∙ element-room (s .args .system) (served (s .args .system) (s .args .fi) ps) _ (s .pre .1 y ps h .1)),
+          lent-long 22 (t .put-head .last .1 .0) (structuresBy eights (s .args .system) (served (s .args .system) (s .args .fi) ps))
+          (long t ∙ element-room eights (s .args .system) (served (s .args .system) (s .args .fi) ps) _ (s .pre .1 y ps h .1)),
     )
 
 same-length : tie.Need-same-length
@@ -61,7 +62,7 @@ returns c = λ y ps h.
     let s = t .before .before .before .before .before in
     let a = s .args in
     let g = s .pre .1 y ps h in
-    element-put (a .system) (a .packets) (served (a .system) (a .fi) ps) (a .out .now) (t .put-head .last .1 .0) _ (g .0) (g .1)
+    element-put eights (a .system) (a .packets) (served (a .system) (a .fi) ps) (a .out .now) (t .put-head .last .1 .0) _ (g .0) (g .1)
     (t .put-head .ensures) (c .before .before .put-structures .ensures y ps h)
 
 pub put-element-spec : {M : Type 1} → statement M

@@ -8,7 +8,7 @@ use native.Mathlib.Omega.{arith}
 use lib.ListN.{length, getD}
 use borrow.Author.Needs.{needs}
 use Rattle.rules.specs.Laying.{low}
-use Rattle.mxf.proofs.WritingLaws.{
+use Rattle.mxf.proofs.Writers.{
   Structures,
   structures-begin,
   structures-inside,
@@ -18,12 +18,13 @@ use Rattle.mxf.proofs.WritingLaws.{
   structures-left,
   structures-done,
 }
+use Rattle.mxf.proofs.WritingLaws.{structure-next, eights}
 use Rattle.mxf.proofs.writing.put_structures.Statement.{statement}
 use Rattle.mxf.proofs.writing.put_structures.Tie as tie
 
 abbrev Inv-loop : tie.InvT-loop
 Inv-loop system fi ls ws out₀ wrapping k₀ at₀ o₀ out k at o =
-    (2 * k ≤ length ls) × (at ≤ length ws) × (length out ≡ length out₀) × Structures system fi ls ws out k at o
+    (2 * k ≤ length ls) × (at ≤ length ws) × (length out ≡ length out₀) × Structures eights system fi ls ws out k at o
 
 abbrev μ-loop : tie.MeasureT-loop
 μ-loop system fi ls ws out₀ wrapping k₀ at₀ o₀ out k at o = length ls - 2 * k
@@ -33,7 +34,9 @@ inside : (c : tie.In-loop Inv-loop μ-loop)
     → let a = c .before .before .before .before .before .before .args in
     let at = c .before .loop .at in
     (at + (low (getD (a .ws .now) (at + 5) 0) + 7) ≤ length (a .ws .now)) × (2 * c .before .loop .k + 2 ≤ length (a .ls .now))
-inside c = structures-inside (c .before .loop .inv .3) (c .loop-test .taken) (c .before .before .before .before .before .before .pre .0)
+inside c =
+    let s = c .before .before .before .before .before .before .pre .0 in
+    structures-inside (c .before .loop .inv .3) (c .loop-test .taken) (s .system) (s .packets) (s .of)
 
 -- and where it is served, its structure in the buffer
 room : (c : tie.Then1 Inv-loop μ-loop)
@@ -41,8 +44,11 @@ room : (c : tie.Then1 Inv-loop μ-loop)
     d .before .loop .o + (c .before .before .before .low-byte .result + 17) ≤ length (d .before .loop .out)
 room c =
     let d = c .before .before .before .before .before in
+    let s = d .before .before .before .before .before .before .pre .0 in
+    let h =
     structures-room (d .before .loop .inv .3) (d .loop-test .taken) (c .before .before .before .low-byte .ensures) (c .before .serves .ensures)
-    (c .if1 .taken) (d .before .before .before .before .before .before .pre .0)
+    (c .if1 .taken) (s .system) (s .packets) (s .of) in
+    omega arith
 
 wrapping-requires : tie.Need-wrapping-requires Inv-loop μ-loop
 wrapping-requires c κs = search needs
@@ -156,9 +162,9 @@ loop-again c =
           (c .if1 .came),
       ⊎-elim
           (λ v.
-          structures-taken so (d .loop-test .taken) size is (v .0 .taken) w refl (v .4 .ensures) (v .7) (v .8) (omega arith)
-          (v .4 .kept .1 .1 .1 .1 .0))
-          (λ v. structures-left so (d .loop-test .taken) size is (v .0 .left) refl (v .1) (v .2))
+          structures-taken so (d .loop-test .taken) size is (v .0 .taken) (omega arith)
+          (structure-next _ (d .before .loop .k) size w refl (v .4 .ensures)) (v .7) (v .8) (omega arith) (v .4 .kept .1 .1 .1 .1 .0))
+          (λ v. structures-left so (d .loop-test .taken) size is (v .0 .left) (omega arith) (v .1) (v .2))
           (c .if1 .came),
     )
 

@@ -2,8 +2,8 @@
 -- Assumes nothing.
 use borrow.Author.Needs.{needs}
 use Rattle.rules.proofs.Sheets.{Sixteen}
-use Rattle.mxf.proofs.WritingLaws.{no-sheet, sheet-of, the-list}
-use Rattle.mxf.proofs.Exporting.{writes}
+use Rattle.mxf.proofs.Writers.{no-sheet, the-list}
+use Rattle.mxf.proofs.WritingLaws.{eights, lister-named, sheet-of, writes}
 use Rattle.mxf.proofs.writing.write.Statement.{statement}
 use Rattle.mxf.proofs.writing.write.Tie as tie
 
@@ -21,14 +21,14 @@ returns : tie.Need-returns
 returns c =
     let t = c .before .before .before in
     let a = t .before .before .before .args in
-    let e = no-sheet (a .fi) _ (a .element .now) _ (t .test .ensures) _ (c .before .if1 .taken) (c .refusal .ensures) in
-    writes (a .fi) (a .sheet .now) (a .element .now) _ _ (sixteen (t .before .before)) (e .0) (e .1)
+    let n = lister-named (a .sheet .now) (t .test .result) (t .test .ensures) in
+    let e = no-sheet eights (a .fi) (a .sheet .now) (a .element .now) _ _ _ n _ (c .before .if1 .taken) (c .refusal .ensures) in
+    writes (a .fi) (a .sheet .now) (a .element .now) _ _ (sixteen (t .before .before)) e
 
 write-list-requires : tie.Need-write-list-requires
 write-list-requires c κs =
     let t = c .before .before .before in
-    let a = t .before .before .before .args in
-    sheet-of (a .fi) _ (a .element .now) _ (t .test .ensures) (c .before .if1 .left)
+    sheet-of _ _ (t .test .ensures) (c .before .if1 .left)
 
 same-length : tie.Need-same-length
 same-length c = search needs
@@ -38,8 +38,9 @@ returns-2 c =
     let e = c .before .before .before .before in
     let t = e .before .before in
     let a = t .before .before .before .args in
-    let w = the-list (a .fi) _ (a .element .now) _ (t .test .ensures) (e .if1 .left) _ _ (c .before .before .write-list .ensures) in
-    writes (a .fi) (a .sheet .now) (a .element .now) _ _ (sixteen (t .before .before)) (w .0) (w .1)
+    let o = sheet-of _ _ (t .test .ensures) (e .if1 .left) in
+    let w = the-list eights (a .fi) (a .sheet .now) (a .element .now) _ o _ _ (c .before .before .write-list .ensures) in
+    writes (a .fi) (a .sheet .now) (a .element .now) _ _ (sixteen (t .before .before)) w
 
 pub write-spec : {M : Type 1} → statement M
 write-spec =

@@ -9,7 +9,8 @@ use Rattle.rules.specs.Systems.{system}
 use Rattle.rules.specs.Sheet.{limit}
 use Rattle.sections.specs.Sections.{Sections}
 use Rattle.sections.proofs.Laws.{sections-of}
-use Rattle.mxf.proofs.WritingLaws.{not-lined, no-room, measured, measured-small, element-written}
+use Rattle.mxf.proofs.Writers.{not-lined, no-room, measured, measured-small, element-written}
+use Rattle.mxf.proofs.WritingLaws.{eights}
 use Rattle.mxf.proofs.writing.write_list.Statement.{statement}
 use Rattle.mxf.proofs.writing.write_list.Tie as tie
 
@@ -29,8 +30,8 @@ small c =
     let m = c .before .before in
     let v = m .before in
     let s = v .before .before .before .before in
-    measured-small _ _ _ (s .args .element .now) (v .before .section-b .ensures) (v .section-c .ensures) _ (m .measure .ensures) (c .if1 .left) _
-    (s .pre .1)
+    measured-small eights _ _ _ (s .args .element .now) (v .before .section-b .ensures) (v .section-c .ensures) _ (m .measure .ensures)
+    (c .if1 .left) _ (s .pre .1)
 
 section-b-requires : tie.Need-section-b-requires
 section-b-requires c κs = search needs
@@ -45,7 +46,7 @@ returns : tie.Need-returns
 returns c =
     let m = c .before .before in
     let v = m .before in
-    not-lined _ _ _ _ (v .before .section-b .ensures) (v .section-c .ensures) _ (m .measure .ensures) (c .if1 .taken)
+    not-lined eights _ _ _ _ (v .before .section-b .ensures) (v .section-c .ensures) _ (m .measure .ensures) (c .if1 .taken)
 
 refusal-requires : tie.Need-refusal-requires
 refusal-requires c κs = search needs
@@ -54,7 +55,7 @@ returns-2 : tie.Need-returns-2
 returns-2 c =
     let m = c .before .before .before .before in
     let v = m .before in
-    no-room _ _ _ _ (v .before .section-b .ensures) (v .section-c .ensures) _ (m .measure .ensures) (c .before .before .if1 .left) _
+    no-room eights _ _ _ _ (v .before .section-b .ensures) (v .section-c .ensures) _ (m .measure .ensures) (c .before .before .if1 .left) _
     (c .before .if2 .taken) (c .refusal .ensures)
 
 cast-put-element : tie.Need-cast-put-element
@@ -77,7 +78,7 @@ put-element-requires c κs =
       sections v,
       λ y ps h.
           let g =
-          measured (a .system) (a .fi) (a .sheet .now) (a .element .now) (v .before .section-b .ensures) (v .section-c .ensures) _
+          measured eights (a .system) (a .fi) (a .sheet .now) (a .element .now) (v .before .section-b .ensures) (v .section-c .ensures) _
           (m .measure .ensures) (e .if1 .left) y ps h in
           let k = small e in
           (g .0, l ∙ g .1, omega arith),
@@ -92,7 +93,7 @@ returns-3 c =
     let e = l .before in
     let m = e .before .before in
     let v = m .before in
-    element-written _ _ _ _ (v .before .section-b .ensures) (v .section-c .ensures) _ (m .measure .ensures) (e .if1 .left) _ (l .if2 .left)
+    element-written eights _ _ _ _ (v .before .section-b .ensures) (v .section-c .ensures) _ (m .measure .ensures) (e .if1 .left) _ (l .if2 .left)
     (c .before .before .put-element .ensures)
 
 pub write-list-spec : {M : Type 1} → statement M
