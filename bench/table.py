@@ -87,8 +87,14 @@ HELD = {
     "read element 28 × 255 + 97, system 2": 1.16,
     "read element 900 × 3, system 2": 1.51,
     "read element 1,275 × 0, system 2": 1.61,
+    "write element10 30 × 20, system 2": 1.52,
+    "write element10 28 × 255 + 97, system 2": 1.55,
+    "write element10 900 × 3, system 2": 1.66,
+    "read element10 30 × 20, system 2": 1.54,
+    "read element10 28 × 255 + 97, system 2": 1.07,
+    "read element10 900 × 3, system 2": 1.65,
 }
-HELD_MEANS = {"plain C": 0.89, "tuned C": 1.14}
+HELD_MEANS = {"plain C": 0.96, "tuned C": 1.19}
 CALLS = 20
 
 

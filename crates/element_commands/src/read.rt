@@ -1,5 +1,5 @@
-// vanc mxf-read SYSTEM FI ELEMENT SHEET [--ten]: reads the packets of the ANC element (ST 436-1) that is in a file to a sheet file. The sheet file is made or
-// replaced whole, and only when the element is read.
+// vanc mxf-read SYSTEM FI ELEMENT SHEET [--ten]: reads the packets of the ANC element (ST 436-1) that is in a file to a sheet file. The sheet file
+// is made or replaced whole, and only when the element is read.
 use console::arguments;
 use console::arguments::NOT_A_NUMBER;
 use console::ending;

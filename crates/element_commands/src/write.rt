@@ -1,5 +1,5 @@
-// vanc mxf-write FI SHEET ELEMENT [--ten]: writes the ANC element (ST 436-1) of the packets of a sheet file. The element file is made or replaced whole, and
-// only when the element is written.
+// vanc mxf-write FI SHEET ELEMENT [--ten]: writes the ANC element (ST 436-1) of the packets of a sheet file. The element file is made or replaced
+// whole, and only when the element is written.
 use console::arguments;
 use console::arguments::NOT_A_NUMBER;
 use console::ending;

@@ -4,7 +4,7 @@ use mathlib.Core.Path.{refl}
 use Rattle.rules.specs.Systems.{system, stands}
 use Rattle.mxf.specs.Element.{key, progressive, wrapping, coding, structure, value, element}
 use Rattle.mxf.specs.Served.{fiRead}
-use Rattle.mxf.specs.Judging.{frontThen, arrayThen, headThen, judged, judgedAs}
+use Rattle.mxf.specs.Judging.{frontThen, arrayThen, headThen, judgedAs}
 use Rattle.mxf.specs.Figures.{Figures}
 
 pub figures-agree : Figures

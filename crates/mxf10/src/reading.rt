@@ -78,6 +78,11 @@ fn written(system: u64, fi: bool, j: ElementRead, e: &[u8], sheet: &mut [u16]) -
     if 65535 < n - 4 - 2 * packets || sheet.len() < n {
         return refusal(17, 0);
     }
+    // From two places, as in mxf: so it is compiled as a function of its own, and its loops need not share the registers.
+    if system == 3 {
+        write_sections(system, fi, packets, &e[mxf::HEAD..], &mut sheet[..n]);
+        return j;
+    }
     write_sections(system, fi, packets, &e[mxf::HEAD..], &mut sheet[..n]);
     j
 }

@@ -1,7 +1,7 @@
 -- `reading::allowed` meets its contract. The loop's invariant is `Allowing`: the lines of the packets before `at` are allowed. The measure is
 -- the number of structures left. Assumes nothing.
 use Prim.Native.Nat.{_-_}
-use mathlib.Core.Path.{_≡_, sym, _∙_}
+use mathlib.Core.Path.{sym, _∙_}
 use native.Mathlib.Omega.{arith}
 use borrow.Author.Needs.{needs}
 use borrow.Author.Tests.{not-true, not-false}

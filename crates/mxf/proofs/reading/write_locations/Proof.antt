@@ -119,7 +119,8 @@ loop-again c =
       λ g.
           locating-more (g .coding) (a .system) (a .fi) (a .n) (a .s .now) (d .loop .out) (d .loop .k) (d .loop .at) (d .before .fi-of .result)
           (t .two .result) (f .flags-of .result) (c .four .result) (d .loop .inv .1 g) (t .before .loop-test .taken) (d .before .fi-of .ensures)
-          (t .two .ensures .0) (flags-by (d .before .fi-of .result) (getD (a .s .now) (d .loop .at + 3) 0) g (f .flags-of .ensures)) (c .four .ensures .0),
+          (t .two .ensures .0) (flags-by (d .before .fi-of .result) (getD (a .s .now) (d .loop .at + 3) 0) g (f .flags-of .ensures))
+          (c .four .ensures .0),
     )
 
 same-length : tie.Need-same-length Inv-loop μ-loop

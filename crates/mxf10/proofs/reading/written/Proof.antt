@@ -63,10 +63,10 @@ returns-2 c =
     (c .refusal2 .result) (c .refusal2 .ensures)
 
 sub-write-sections : tie.Need-sub-write-sections
-sub-write-sections c = let l = there (c .before .before .before .before .before .before) in omega arith
+sub-write-sections c = let l = there (c .before .before .before .before .before .before .before) in omega arith
 
 part-write-sections-start : tie.Need-part-write-sections-start
-part-write-sections-start c = let l = there (c .before .before .before .before .before .before) in omega arith
+part-write-sections-start c = let l = there (c .before .before .before .before .before .before .before) in omega arith
 
 part-write-sections-end : tie.Need-part-write-sections-end
 part-write-sections-end c = search needs
@@ -76,13 +76,13 @@ slice-relend-prefix-write-sections c = search needs
 
 slice-aggregate-write-sections : tie.Need-slice-aggregate-write-sections
 slice-aggregate-write-sections c =
-    let d = c .before .before in
+    let d = c .before .before .before in
     sym (length-take-le _ (d .before .before .before .before .before .before .args .sheet .now) (fits d))
 
 write-sections-requires : tie.Need-write-sections-requires
 unfolding limit
 write-sections-requires c κs =
-    let d = c .before .before in
+    let d = c .before .before .before in
     let b = d .before .before .before .before .before .before in
     let a = b .args in
     sized ten (a .system) (a .fi) (a .e .now) (a .sheet .now) (a .j) (b .pre .1) (b .pre .2) (d .before .before .if1 .left)
@@ -95,11 +95,50 @@ returns-3 : tie.Need-returns-3
 unfolding limit
 returns-3 c =
     let w = c .before .before in
-    let d = w .before .before .before in
+    let d = w .before .before .before .before in
     let b = d .before .before .before .before .before .before in
     let a = b .args in
     all-read ten (a .system) (a .fi) (a .e .now) (a .sheet .now) (a .j) (b .pre .1) (b .pre .2) (d .before .before .if1 .left)
     (d .before .if2 .left) (fits d) (w .write-sections .last .1 .1 .1 .1 .0) (w .write-sections .ensures)
+
+sub-write-sections-2 : tie.Need-sub-write-sections-2
+sub-write-sections-2 c = let l = there (c .before .before .before .before .before .before .before) in omega arith
+
+part-write-sections-start-2 : tie.Need-part-write-sections-start-2
+part-write-sections-start-2 c = let l = there (c .before .before .before .before .before .before .before) in omega arith
+
+part-write-sections-end-2 : tie.Need-part-write-sections-end-2
+part-write-sections-end-2 c = search needs
+
+slice-relend-prefix-write-sections-2 : tie.Need-slice-relend-prefix-write-sections-2
+slice-relend-prefix-write-sections-2 c = search needs
+
+slice-aggregate-write-sections-2 : tie.Need-slice-aggregate-write-sections-2
+slice-aggregate-write-sections-2 c =
+    let d = c .before .before .before in
+    sym (length-take-le _ (d .before .before .before .before .before .before .args .sheet .now) (fits d))
+
+write-sections-requires-2 : tie.Need-write-sections-requires-2
+unfolding limit
+write-sections-requires-2 c κs =
+    let d = c .before .before .before in
+    let b = d .before .before .before .before .before .before in
+    let a = b .args in
+    sized ten (a .system) (a .fi) (a .e .now) (a .sheet .now) (a .j) (b .pre .1) (b .pre .2) (d .before .before .if1 .left)
+    (d .before .if2 .left) (fits d) (take (a .j .numbers) (a .sheet .now)) (b .pre .0) (length-take-le (a .j .numbers) (a .sheet .now) (fits d))
+
+same-length-2 : tie.Need-same-length-2
+same-length-2 c = search needs
+
+returns-4 : tie.Need-returns-4
+unfolding limit
+returns-4 c =
+    let w = c .before .before in
+    let d = w .before .before .before .before in
+    let b = d .before .before .before .before .before .before in
+    let a = b .args in
+    all-read ten (a .system) (a .fi) (a .e .now) (a .sheet .now) (a .j) (b .pre .1) (b .pre .2) (d .before .before .if1 .left)
+    (d .before .if2 .left) (fits d) (w .write-sections2 .last .1 .1 .1 .1 .0) (w .write-sections2 .ensures)
 
 pub written-spec : {M : Type 1} → statement M
 written-spec =
@@ -119,4 +158,12 @@ written-spec =
     slice-aggregate-write-sections
     write-sections-requires
     same-length
-    returns-3)
+    returns-3
+    sub-write-sections-2
+    part-write-sections-start-2
+    part-write-sections-end-2
+    slice-relend-prefix-write-sections-2
+    slice-aggregate-write-sections-2
+    write-sections-requires-2
+    same-length-2
+    returns-4)
