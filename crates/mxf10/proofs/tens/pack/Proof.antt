@@ -1,7 +1,7 @@
 -- `mxf10::tens::pack` meets its contract. The loop's invariant: the bytes of the words that are left, stored from o on, give the whole.
 -- Assumes nothing.
 use Prim.Native.Nat.{_+_, _-_, _≤_}
-use mathlib.Core.Path.{_≡_, refl, sym, _∙_}
+use mathlib.Core.Path.{_≡_, refl, _∙_}
 use native.Mathlib.Omega.{arith}
 use lib.ListN.{length, drop}
 use lib.Seq.{sets}
