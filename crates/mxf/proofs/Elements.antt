@@ -10,7 +10,7 @@ use native.Mathlib.Omega.{arith}
 use native.Mathlib.Numerals.{add-three}
 use lib.ListN.{length, getD, take, drop, length-append, length-drop, take-append-drop}
 use lib.Seq.{drop-at, take-at, take-append-seam, drop-drop, length-take-le}
-use Rattle.rules.specs.Base.{All, Bytes, joined}
+use Rattle.rules.specs.Base.{All, Bytes}
 use Rattle.rules.specs.Systems.{system, allowed}
 use Rattle.rules.specs.Packet.{Packet, body, Sound}
 use Rattle.rules.specs.Numbers.{Outcome, listed}
@@ -20,7 +20,7 @@ use Rattle.mxf.specs.Element.{eight, Padded, packetsOf, coding, samples,
 use Rattle.mxf.specs.Judging.{twoIn, fourIn, sizeIn, frontThen, arrayThen, packetIn, judged}
 use Rattle.mxf.specs.Demands.{Held, Gives}
 use Rattle.mxf.proofs.Inversion.{Structure}
-use Rattle.mxf.proofs.Structures.{laid, line-back, samples-back, array-back, behind-back, flags-back, structure-passes, rest-back}
+use Rattle.mxf.proofs.Structures.{laid, Says, laid-says, flags-back, structure-passes, rest-back}
 use Rattle.mxf.proofs.Structures.{firsts, flags-small, flags-own, structure-split}
 use Rattle.mxf.proofs.Structures.{packets-give, Kind, ElementBy, element-read, element-one, element-written}
 
@@ -47,9 +47,9 @@ module _ (sys : ℕ) (fi : Bool) (x : Padded) (r : List ℕ) (g : Held sys fi x)
   abbrev size : ℕ
   size = samples p + length (x .padding)
 
-  is-laid : s ≡ laid eight sys (p .line) (p .flags) (samples p) size array ++ r
+  says : Says eight sys (p .line) (p .flags) (samples p) size array r s
   unfolding structure coding laid
-  is-laid = refl
+  says = laid-says eight sys (p .line) (p .flags) (samples p) size array r s refl
 
   array-size : size ≡ length array
   array-size = let k = length-append (p .user) (x .padding) in omega arith
@@ -62,7 +62,7 @@ module _ (sys : ℕ) (fi : Bool) (x : Padded) (r : List ℕ) (g : Held sys fi x)
   passes =
       let d = dc-back in
       let m = g .sound .many in
-      structure-passes eight sys (p .line) (p .flags) (samples p) size array r s is-laid (g .lined) (g .sound .line) (omega arith)
+      structure-passes eight sys (p .line) (p .flags) (samples p) size array r s says (g .lined) (g .sound .line) (omega arith)
       (omega arith) (omega arith) array-size (omega arith)
 
   user-back : take (getD s 16 0) (drop 17 s) ≡ p .user
@@ -72,21 +72,19 @@ module _ (sys : ℕ) (fi : Bool) (x : Padded) (r : List ℕ) (g : Held sys fi x)
   structure-packet : packetIn eight sys fi s ≡ p
   unfolding structure
   structure-packet =
-      let line = line-back eight sys (p .line) (p .flags) (samples p) size array r s is-laid in
-      let flags = flags-back eight sys (p .line) (p .flags) (samples p) size array r s is-laid fi (g .own) (g .sound .flags) in
-      λ i. record { did = p .did; sdid = p .sdid; user = user-back i; line = line i; flags = flags i; mark = sym (g .sound .mark) i }
+      let flags = flags-back eight sys (p .line) (p .flags) (samples p) size array r s says fi (g .own) (g .sound .flags) in
+      λ i. record { did = p .did; sdid = p .sdid; user = user-back i; line = says .line i; flags = flags i; mark = sym (g .sound .mark) i }
 
   structure-rest : drop (sizeIn s) s ≡ r
-  structure-rest = rest-back eight sys (p .line) (p .flags) (samples p) size array r s is-laid array-size
+  structure-rest = rest-back eight sys (p .line) (p .flags) (samples p) size array r s says array-size
 
   padding-back : take (fourIn s 6 - twoIn s 4) (drop (twoIn s 4) (drop 14 s)) ≡ x .padding
   padding-back =
-      let m = samples-back eight sys (p .line) (p .flags) (samples p) size array r s is-laid in
-      let a = array-back eight sys (p .line) (p .flags) (samples p) size array r s is-laid in
-      let b = behind-back eight sys (p .line) (p .flags) (samples p) size array r s is-laid in
+      let m = says .samples in
+      let a = says .array in
       let n : twoIn s 4 ≡ length (body p) = m ∙ add-three (length (p .user)) in
       let e : drop (twoIn s 4) (drop 14 s) ≡ x .padding ++ r =
-      ap (drop (twoIn s 4)) (b ∙ append-assoc (body p) (x .padding) r) ∙ drop-at (body p) (x .padding ++ r) (twoIn s 4) (sym n) in
+      ap (drop (twoIn s 4)) (says .behind ∙ append-assoc (body p) (x .padding) r) ∙ drop-at (body p) (x .padding ++ r) (twoIn s 4) (sym n) in
       ap (take (fourIn s 6 - twoIn s 4)) e ∙ take-at (x .padding) r (fourIn s 6 - twoIn s 4) (omega arith)
 
   structure-padded : paddedIn sys fi s ≡ x
@@ -184,10 +182,6 @@ module _ (sys : ℕ) (fi : Bool) (s : List ℕ) (hs : Bytes s) (g : Structure ei
       }
 
 -- ---- an element, both ways
-
-pub value-length : (sys : ℕ) (xs : List Padded) → length (value sys xs) ≡ 2 + length (joined (structure sys) xs)
-unfolding value
-value-length sys xs = omega arith
 
 module _ (sys : ℕ) (fi : Bool) where
   abbrev view : Padded → Packet

@@ -23,8 +23,8 @@ use Rattle.rules.specs.Packet.{Packet}
 use Rattle.rules.specs.Numbers.{Outcome, listed, refused, also}
 use Rattle.rules.proofs.Basics.{never, both}
 use Rattle.mxf.specs.Element.{key, wrapping, Coding}
-use Rattle.mxf.specs.Judging.{twoIn, threeIn, fourIn, field, inFrame, isCoding, others, isCount, arrayFor, sizeIn, dcIn, dcBytes, frontThen, arrayThen, packetIn}
-use Rattle.mxf.specs.Judging.{structures, keyThen, headThen, judgedAs}
+use Rattle.mxf.specs.Judging.{twoIn, threeIn, fourIn, field, inFrame, isCoding, others, isCount, arrayFor, sizeIn, dcIn, dcBytes}
+use Rattle.mxf.specs.Judging.{frontThen, arrayThen, packetIn, structures, keyThen, headThen, judgedAs}
 
 -- ---- a field
 
@@ -140,7 +140,8 @@ pub structures-none : (c : Coding) (sys : ℕ) (fi : Bool) (at : ℕ) (s : List 
 structures-none c sys fi at [] ps e = (refl, cc)
 structures-none c sys fi at (b ∷ s) ps e = never (cc)
 
-pub structures-count : (c : Coding) (sys : ℕ) (fi : Bool) (n at : ℕ) (s : List ℕ) (ps : List Packet) → structures c sys fi n at s ≡ listed ps → length ps ≡ n
+pub structures-count : (c : Coding) (sys : ℕ) (fi : Bool) (n at : ℕ) (s : List ℕ) (ps : List Packet) → structures c sys fi n at s ≡ listed ps
+    → length ps ≡ n
 structures-count c sys fi zero at s ps e = ap length (structures-none c sys fi at s ps e .1)
 structures-count c sys fi (suc n) at s ps e =
     let m = structures-listed c sys fi n at s ps e in

@@ -21,7 +21,7 @@ use Rattle.rules.specs.Sheet.{sheetOf}
 use Rattle.rules.specs.Numbers.{Outcome, listed, refused, also}
 use Rattle.rules.proofs.Basics.{second-false, rest-part}
 use Rattle.rules.proofs.Sheets.{sheet-length}
-use Rattle.mxf.specs.Element.{Coding, eight, luma as lumaOf, colour as colourOf, key, wrapping}
+use Rattle.mxf.specs.Element.{Coding, eight, ten, luma as lumaOf, colour as colourOf, key, wrapping}
 use Rattle.mxf.specs.Judging.{
   twoIn,
   threeIn,
@@ -29,15 +29,18 @@ use Rattle.mxf.specs.Judging.{
   field,
   inFrame,
   isCoding,
+  others,
   isCount,
+  arrayFor,
   sizeIn,
+  dcIn,
+  dcBytes,
   frontThen,
   arrayThen,
   packetIn,
   structures,
   keyThen,
   headThen,
-  judged,
   judgedAs,
 }
 use Rattle.mxf.specs.Reading.{readOf}
@@ -212,69 +215,84 @@ module _ (c : Coding) (sys last at : ℕ) (s : List ℕ) (pos : 0 < at) (is : la
 
 -- ---- its array
 
-module _ (at : ℕ) (s : List ℕ) (pos : 0 < at) (o : Outcome) where
+-- it reaches over DC
+over-dc : (c : Coding) (n : ℕ) → others c ≤ n → 2 + dcBytes c ≤ arrayFor c n
+over-dc eight n l = l
+over-dc ten n l = omega arith
+
+module _ (c : Coding) (at : ℕ) (s : List ℕ) (pos : 0 < at) (o : Outcome) where
+  abbrev fromDc : Outcome
+  fromDc = field at s 16 (dcBytes c) (eqb (dcIn c s + others c) (twoIn s 4)) o
+
   abbrev fromElement : Outcome
-  fromElement = field at s 10 4 (eqb (fourIn s 10) 1) (field at s 16 1 (eqb (getD s 16 0 + 3) (twoIn s 4)) o)
+  fromElement = field at s 10 4 (eqb (fourIn s 10) 1) fromDc
 
   abbrev isArray : Bool
-  isArray = leb (twoIn s 4) (fourIn s 6) && leb (sizeIn s) (length s)
+  isArray = leb (arrayFor c (twoIn s 4)) (fourIn s 6) && leb (sizeIn s) (length s)
 
   abbrev fromArray : Outcome
   fromArray = field at s 6 4 isArray fromElement
 
-  pub count-missing : length s < 6 → arrayThen eight at s o ≡ faultOr 0 (at + length s) o
+  pub count-missing : length s < 6 → arrayThen c at s o ≡ faultOr 0 (at + length s) o
   unfolding arrayThen
   count-missing l = missing 0 at s 6 _ o (at + length s) refl (λ z. omega arith) l
 
   module _ (l6 : 6 ≤ length s) where
-    count-wrong : isCount eight (twoIn s 4) ≡ false → arrayThen eight at s o ≡ faultOr 0 (at + 4) o
+    count-wrong : isCount c (twoIn s 4) ≡ false → arrayThen c at s o ≡ faultOr 0 (at + 4) o
     unfolding arrayThen
     count-wrong w = wrong 0 at s 4 2 _ _ o (at + 4) refl (λ z. omega arith) l6 w
 
-    pub too-few : twoIn s 4 < 3 → arrayThen eight at s o ≡ faultOr 0 (at + 4) o
-    too-few l = count-wrong (rw (lt-leb 3 (twoIn s 4) l))
+    pub too-few : twoIn s 4 < others c → arrayThen c at s o ≡ faultOr 0 (at + 4) o
+    too-few l = count-wrong (rw (lt-leb (others c) (twoIn s 4) l))
 
-    pub too-many : 258 < twoIn s 4 → arrayThen eight at s o ≡ faultOr 0 (at + 4) o
-    too-many l = count-wrong (second-false (leb 3 (twoIn s 4)) (leb (twoIn s 4) 258) (lt-leb (twoIn s 4) 258 l))
+    pub too-many : others c + 255 < twoIn s 4 → arrayThen c at s o ≡ faultOr 0 (at + 4) o
+    too-many l = count-wrong (second-false (leb (others c) (twoIn s 4)) (leb (twoIn s 4) (others c + 255)) (lt-leb (twoIn s 4) (others c + 255) l))
 
-    module _ (least : 3 ≤ twoIn s 4) (most : twoIn s 4 ≤ 258) where
-      from-array : arrayThen eight at s o ≡ fromArray
+    module _ (least : others c ≤ twoIn s 4) (most : twoIn s 4 ≤ others c + 255) where
+      from-array : arrayThen c at s o ≡ fromArray
       unfolding arrayThen
-      from-array = right at s 4 2 (isCount eight (twoIn s 4)) fromArray l6 (rw (le-leb 3 (twoIn s 4) least) (le-leb (twoIn s 4) 258 most))
+      from-array =
+          right at s 4 2 (isCount c (twoIn s 4)) fromArray l6 (rw (le-leb (others c) (twoIn s 4) least) (le-leb (twoIn s 4) (others c + 255) most))
 
-      pub array-missing : length s < 10 → arrayThen eight at s o ≡ faultOr 0 (at + length s) o
+      pub array-missing : length s < 10 → arrayThen c at s o ≡ faultOr 0 (at + length s) o
       array-missing l = from-array ∙ missing 0 at s 10 _ o (at + length s) refl (λ z. omega arith) l
 
       module _ (l10 : 10 ≤ length s) where
-        pub array-small : fourIn s 6 < twoIn s 4 → arrayThen eight at s o ≡ faultOr 0 (at + 6) o
+        pub array-small : fourIn s 6 < arrayFor c (twoIn s 4) → arrayThen c at s o ≡ faultOr 0 (at + 6) o
         array-small l =
-            from-array ∙ wrong 0 at s 6 4 isArray fromElement o (at + 6) refl (λ z. omega arith) l10 (rw (lt-leb (twoIn s 4) (fourIn s 6) l))
+            from-array
+            ∙ wrong 0 at s 6 4 isArray fromElement o (at + 6) refl (λ z. omega arith) l10 (rw (lt-leb (arrayFor c (twoIn s 4)) (fourIn s 6) l))
 
-        pub array-past : length s < sizeIn s → arrayThen eight at s o ≡ faultOr 0 (at + 6) o
+        pub array-past : length s < sizeIn s → arrayThen c at s o ≡ faultOr 0 (at + 6) o
         array-past l =
             from-array
             ∙ wrong 0 at s 6 4 _ _ o (at + 6) refl (λ z. omega arith) l10
-            (second-false (leb (twoIn s 4) (fourIn s 6)) (leb (sizeIn s) (length s)) (lt-leb (sizeIn s) (length s) l))
+            (second-false (leb (arrayFor c (twoIn s 4)) (fourIn s 6)) (leb (sizeIn s) (length s)) (lt-leb (sizeIn s) (length s) l))
 
-        module _ (room : twoIn s 4 ≤ fourIn s 6) (there : sizeIn s ≤ length s) where
-          from-element : arrayThen eight at s o ≡ fromElement
+        module _ (room : arrayFor c (twoIn s 4) ≤ fourIn s 6) (there : sizeIn s ≤ length s) where
+          from-element : arrayThen c at s o ≡ fromElement
           from-element =
-              from-array ∙ right at s 6 4 isArray fromElement l10 (rw (le-leb (twoIn s 4) (fourIn s 6) room) (le-leb (sizeIn s) (length s) there))
+              from-array
+              ∙ right at s 6 4 isArray fromElement l10
+              (rw (le-leb (arrayFor c (twoIn s 4)) (fourIn s 6) room) (le-leb (sizeIn s) (length s) there))
 
-          pub element-wrong : (fourIn s 10 ≡ 1 → ⊥) → arrayThen eight at s o ≡ faultOr 0 (at + 10) o
+          pub element-wrong : (fourIn s 10 ≡ 1 → ⊥) → arrayThen c at s o ≡ faultOr 0 (at + 10) o
           element-wrong h =
               from-element ∙ wrong 0 at s 10 4 _ _ o (at + 10) refl (λ z. omega arith) (omega arith) (ne-eqb (fourIn s 10) 1 h)
 
           module _ (single : fourIn s 10 ≡ 1) where
-            from-dc : arrayThen eight at s o ≡ field at s 16 1 (eqb (getD s 16 0 + 3) (twoIn s 4)) o
+            from-dc : arrayThen c at s o ≡ fromDc
             from-dc = from-element ∙ right at s 10 4 _ _ (omega arith) (eq-eqb (fourIn s 10) 1 single)
 
-            pub dc-wrong : (getD s 16 0 + 3 ≡ twoIn s 4 → ⊥) → arrayThen eight at s o ≡ faultOr 0 (at + 16) o
-            dc-wrong h =
-                from-dc ∙ wrong 0 at s 16 1 _ _ o (at + 16) refl (λ z. omega arith) (omega arith) (ne-eqb (getD s 16 0 + 3) (twoIn s 4) h)
+            dc-there : 16 + dcBytes c ≤ length s
+            dc-there = let l = over-dc c (twoIn s 4) least in omega arith
 
-            pub array-right : getD s 16 0 + 3 ≡ twoIn s 4 → arrayThen eight at s o ≡ o
-            array-right h = from-dc ∙ right at s 16 1 _ _ (omega arith) (eq-eqb (getD s 16 0 + 3) (twoIn s 4) h)
+            pub dc-wrong : (dcIn c s + others c ≡ twoIn s 4 → ⊥) → arrayThen c at s o ≡ faultOr 0 (at + 16) o
+            dc-wrong h =
+                from-dc ∙ wrong 0 at s 16 (dcBytes c) _ _ o (at + 16) refl (λ z. omega arith) dc-there (ne-eqb (dcIn c s + others c) (twoIn s 4) h)
+
+            pub array-right : dcIn c s + others c ≡ twoIn s 4 → arrayThen c at s o ≡ o
+            array-right h = from-dc ∙ right at s 16 (dcBytes c) _ _ dc-there (eq-eqb (dcIn c s + others c) (twoIn s 4) h)
 
 -- ---- one without a fault
 
@@ -290,7 +308,7 @@ passes sys last s is some within wrapped coded w most single at o =
     (luma eight sys last (22 + at) s (omega arith) is next (omega arith) some within (omega arith) _ refl wrapped (omega arith))
     (colour eight sys last (22 + at) s (omega arith) is next (omega arith) some within (omega arith) _ refl wrapped (omega arith))
     coded
-    ∙ array-right (22 + at) s (omega arith) o (omega arith) (omega arith) most (omega arith) b a single d
+    ∙ array-right eight (22 + at) s (omega arith) o (omega arith) (omega arith) most (omega arith) b a single d
 
 -- ---- the structures
 
@@ -322,8 +340,8 @@ add-nothing sys (listed ps) =
     let b : 4 + (2 * length ps + stringBytes ps) ≡ length (sheetOf sys ps) = omega arith in
     λ i. counted (a i) (b i)
 
-pub at-first : (sys : ℕ) (fi : Bool) (n : ℕ) (s : List ℕ) → wholeFrom sys fi n 0 0 4 s ≡ readOf sys (structures eight sys fi n 22 s)
-at-first sys fi n s = rw (sub-zero n) (add-nothing sys (structures eight sys fi n 22 s))
+pub at-first : (c : Coding) (sys : ℕ) (fi : Bool) (n : ℕ) (s : List ℕ) → wholeFrom c sys fi n 0 0 4 s ≡ readOf sys (structures c sys fi n 22 s)
+at-first c sys fi n s = rw (sub-zero n) (add-nothing sys (structures c sys fi n 22 s))
 
 add-also : (k numbers : ℕ) (p : Packet) (o : Outcome) → addTo k numbers (also p o) ≡ addTo (k + 1) (numbers + (2 + bytesOf p)) o
 add-also k numbers p (refused n i) = refl
@@ -334,20 +352,20 @@ add-also k numbers p (listed ps) =
     λ i. counted (a i) (b i)
 
 -- after the last structure: bytes are left over, or none
-module _ (sys : ℕ) (fi : Bool) (n k at numbers : ℕ) (s : List ℕ) (all : k ≡ n) where
+module _ (c : Coding) (sys : ℕ) (fi : Bool) (n k at numbers : ℕ) (s : List ℕ) (all : k ≡ n) where
   none-left : n - k ≡ 0
   none-left = omega arith
 
-  pub at-surplus : at < length s → readOf 0 (refused 19 (22 + at)) ≡ wholeFrom sys fi n k at numbers s
+  pub at-surplus : at < length s → readOf 0 (refused 19 (22 + at)) ≡ wholeFrom c sys fi n k at numbers s
   at-surplus l = rw (none-left, drop-cons s at 0 l)
 
-  pub at-end : length s ≤ at → counted n numbers ≡ wholeFrom sys fi n k at numbers s
+  pub at-end : length s ≤ at → counted n numbers ≡ wholeFrom c sys fi n k at numbers s
   at-end l = rw (none-left, drop-of-length-le s l, all) (simp add-zero)
 
 -- a structure that passed its tests is there
-module _ (at : ℕ) (s : List ℕ) (w : Whole eight (take (length s - at) (drop at s))) where
-  whole : Whole eight (drop at s)
-  whole = subst (Whole eight) (rest-part at s) w
+module _ (c : Coding) (at : ℕ) (s : List ℕ) (w : Whole c (take (length s - at) (drop at s))) where
+  pub whole : Whole c (drop at s)
+  whole = subst (Whole c) (rest-part at s) w
 
   pub all-there : at ≤ length s → at + (14 + fourIn s (at + 6)) ≤ length s
   all-there l =
@@ -356,71 +374,72 @@ module _ (at : ℕ) (s : List ℕ) (w : Whole eight (take (length s - at) (drop 
       let h = whole .there in
       omega arith
 
-  pub samples-there : twoIn s (at + 4) ≤ fourIn s (at + 6)
+  pub samples-there : arrayFor c (twoIn s (at + 4)) ≤ fourIn s (at + 6)
   samples-there =
-      let e = two-drop at 4 s in
+      let e : arrayFor c (twoIn (drop at s) 4) ≡ arrayFor c (twoIn s (at + 4)) = ap (arrayFor c) (two-drop at 4 s) in
       let f = four-drop at 6 s in
       let h = whole .room in
       omega arith
 
-  -- its sheet numbers: the words, and a location
-  sheet-numbers : (sys : ℕ) (fi : Bool) → 2 + bytesOf (packetIn eight sys fi (drop at s)) ≡ twoIn s (at + 4) + 6
-  sheet-numbers sys fi =
-      let l = length-drop 17 (drop at s) in
-      let h = whole .there in
-      let r = whole .room in
-      let d = whole .dc in
-      let u = length-take-le (getD (drop at s) 16 0) (drop 17 (drop at s)) (omega arith) in
-      let e = two-drop at 4 s in
-      omega arith
+-- the words of a packet: ADF and CS beside its samples of 8 bits
+pub packet-long : (sys : ℕ) (fi : Bool) (s : List ℕ) → Whole eight s → bytesOf (packetIn eight sys fi s) ≡ twoIn s 4 + 4
+packet-long sys fi s w =
+    let l = length-drop 17 s in
+    let h = w .there in
+    let r = w .room in
+    let d = w .dc in
+    let u = length-take-le (getD s 16 0) (drop 17 s) (omega arith) in
+    omega arith
 
 -- the structure at a place, and the fault that its tests gave
-module _ (sys : ℕ) (fi : Bool) (n k at numbers : ℕ) (s : List ℕ) (h : k < n) (f : ℕ)
+module _ (c : Coding) (sys : ℕ) (fi : Bool) (n k at numbers : ℕ) (s : List ℕ) (h : k < n) (f : ℕ)
     (tested : (o : Outcome)
-    → frontThen eight sys (22 + at) (take (length s - at) (drop at s)) (arrayThen eight (22 + at) (take (length s - at) (drop at s)) o) ≡ faultOr 0 f o)
+    → frontThen c sys (22 + at) (take (length s - at) (drop at s)) (arrayThen c (22 + at) (take (length s - at) (drop at s)) o) ≡ faultOr 0 f o)
   where
     abbrev t : List ℕ
     t = drop at s
 
     abbrev later : Outcome
-    later = also (packetIn eight sys fi t) (structures eight sys fi (n - (k + 1)) (22 + at + sizeIn t) (drop (sizeIn t) t))
+    later = also (packetIn c sys fi t) (structures c sys fi (n - (k + 1)) (22 + at + sizeIn t) (drop (sizeIn t) t))
 
-    turn : structures eight sys fi (n - k) (22 + at) t ≡ faultOr 0 f later
+    turn : structures c sys fi (n - k) (22 + at) t ≡ faultOr 0 f later
     turn =
         let e : n - k ≡ suc (n - (k + 1)) = omega arith in
         rw e (rw (rest-part at s) at (tested later))
 
-    pub at-fault : (f ≡ 0 → ⊥) → readOf 0 (refused 19 f) ≡ wholeFrom sys fi n k at numbers s
+    pub at-fault : (f ≡ 0 → ⊥) → readOf 0 (refused 19 f) ≡ wholeFrom c sys fi n k at numbers s
     at-fault g = sym (ap (addTo k numbers) (turn ∙ sym (fault 0 f later g)))
 
-    pub at-next : f ≡ 0 → Whole eight (take (length s - at) (drop at s)) → (two four : ℕ) → two ≡ twoIn s (at + 4) → four ≡ fourIn s (at + 6)
-        → wholeFrom sys fi n (k + 1) (at + (14 + four)) (numbers + (two + 6)) s ≡ wholeFrom sys fi n k at numbers s
-    at-next z w two four d e =
-        let a : numbers + (2 + bytesOf (packetIn eight sys fi t)) ≡ numbers + (two + 6) =
-        ap (λ (m : ℕ). numbers + m) (sheet-numbers at s w sys fi ∙ ap (λ (m : ℕ). m + 6) (sym d)) in
+    -- the sheet numbers of its packet: samples, the words beside them, and a location
+    pub at-next : f ≡ 0 → (beside : ℕ) → bytesOf (packetIn c sys fi t) ≡ twoIn t 4 + beside
+        → (two four : ℕ) → two ≡ twoIn s (at + 4) → four ≡ fourIn s (at + 6)
+        → wholeFrom c sys fi n (k + 1) (at + (14 + four)) (numbers + (two + (beside + 2))) s ≡ wholeFrom c sys fi n k at numbers s
+    at-next z beside long two four d e =
+        let x = two-drop at 4 s in
+        let a : numbers + (2 + bytesOf (packetIn c sys fi t)) ≡ numbers + (two + (beside + 2)) = omega arith in
         let b : sizeIn t ≡ 14 + four = ap (λ (m : ℕ). 14 + m) (four-drop at 6 s ∙ sym e) in
         let p : 22 + at + sizeIn t ≡ 22 + (at + (14 + four)) = omega arith in
         let r : drop (sizeIn t) t ≡ drop (at + (14 + four)) s = drop-drop (sizeIn t) at s ∙ ap (λ (m : ℕ). drop (at + m) s) b in
         sym
         (ap (addTo k numbers) (turn ∙ no-fault 0 f later z)
-        ∙ add-also k numbers (packetIn eight sys fi t) (structures eight sys fi (n - (k + 1)) (22 + at + sizeIn t) (drop (sizeIn t) t))
-        ∙ (λ i. addTo (k + 1) (a i) (structures eight sys fi (n - (k + 1)) (p i) (r i))))
+        ∙ add-also k numbers (packetIn c sys fi t) (structures c sys fi (n - (k + 1)) (22 + at + sizeIn t) (drop (sizeIn t) t))
+        ∙ (λ i. addTo (k + 1) (a i) (structures c sys fi (n - (k + 1)) (p i) (r i))))
 
 -- ---- the element
 
 -- the fault that the tests of its head gave
-module _ (sys : ℕ) (fi : Bool) (e : List ℕ) (f : ℕ) (tested : (o : Outcome) → headThen e o ≡ faultOr 22 f o) where
+module _ (c : Coding) (sys : ℕ) (fi : Bool) (e : List ℕ) (f : ℕ) (tested : (o : Outcome) → headThen e o ≡ faultOr 22 f o) where
   abbrev behind : Outcome
-  behind = structures eight sys fi (twoIn e 20) 22 (drop 22 e)
+  behind = structures c sys fi (twoIn e 20) 22 (drop 22 e)
 
-  pub head-wrong : f < 22 → readOf 0 (refused 19 f) ≡ readOf sys (judged sys fi e)
+  pub head-wrong : f < 22 → readOf 0 (refused 19 f) ≡ readOf sys (judgedAs c sys fi e)
   unfolding judgedAs
   head-wrong l = ap (readOf sys) (fault 22 f behind (λ z. omega arith) ∙ sym (tested behind))
 
   pub from-structures : f ≡ 22 → (n : ℕ) → n ≡ twoIn e 20 → (r : ElementRead)
-      → r ≡ readOf sys (structures eight sys fi n 22 (take (length e - 22) (drop 22 e))) → r ≡ readOf sys (judged sys fi e)
+      → r ≡ readOf sys (structures c sys fi n 22 (take (length e - 22) (drop 22 e))) → r ≡ readOf sys (judgedAs c sys fi e)
   unfolding judgedAs
   from-structures z n d r g =
       g
-      ∙ (λ i. readOf sys (structures eight sys fi (d i) 22 (rest-part 22 e i)))
+      ∙ (λ i. readOf sys (structures c sys fi (d i) 22 (rest-part 22 e i)))
       ∙ ap (readOf sys) (sym (tested behind ∙ no-fault 22 f behind z))

@@ -116,42 +116,36 @@ dc-there : (c : Coding) (n k : ℕ) → others c ≤ n → arrayFor c n ≤ k �
 dc-there eight n k h l = omega arith
 dc-there ten n k h l = omega arith
 
-module _ (c : Coding) (sys line flags n k : ℕ) (array r s : List ℕ) (e : s ≡ laid c sys line flags n k array ++ r) where
-  pub line-back : twoIn s 0 ≡ line
-  unfolding laid
-  line-back = ap (λ (t : List ℕ). twoIn t 0) e ∙ two-back line
+-- what the fields of such a structure say, and what is behind them
+pub record Says (c : Coding) (sys l f n k : ℕ) (a r s : List ℕ) : Type 0 where
+  pub line : twoIn s 0 ≡ l
+  pub wrapped : getD s 2 0 ≡ wrapping sys
+  pub coded : getD s 3 0 ≡ codingOf c f
+  pub samples : twoIn s 4 ≡ n
+  pub array : fourIn s 6 ≡ k
+  pub single : fourIn s 10 ≡ 1
+  pub behind : drop 14 s ≡ a ++ r
+  pub long : length s ≡ 14 + length a + length r
 
-  wrapping-back : getD s 2 0 ≡ wrapping sys
-  unfolding laid
-  wrapping-back = ap (λ (t : List ℕ). getD t 2 0) e
+pub laid-says : (c : Coding) (sys l f n k : ℕ) (a r s : List ℕ) → s ≡ laid c sys l f n k a ++ r → Says c sys l f n k a r s
+unfolding laid
+laid-says c sys l f n k a r s e =
+    let m = length-append a r in
+    record {
+      line = ap (λ (t : List ℕ). twoIn t 0) e ∙ two-back l;
+      wrapped = ap (λ (t : List ℕ). getD t 2 0) e;
+      coded = ap (λ (t : List ℕ). getD t 3 0) e;
+      samples = ap (λ (t : List ℕ). twoIn t 4) e ∙ two-back n;
+      array = ap (λ (t : List ℕ). fourIn t 6) e ∙ four-back k;
+      single = ap (λ (t : List ℕ). fourIn t 10) e;
+      behind = ap (drop 14) e;
+      long = ap length e ∙ (omega arith);
+    }
 
-  coding-back : getD s 3 0 ≡ codingOf c flags
-  unfolding laid
-  coding-back = ap (λ (t : List ℕ). getD t 3 0) e
-
-  pub samples-back : twoIn s 4 ≡ n
-  unfolding laid
-  samples-back = ap (λ (t : List ℕ). twoIn t 4) e ∙ two-back n
-
-  pub array-back : fourIn s 6 ≡ k
-  unfolding laid
-  array-back = ap (λ (t : List ℕ). fourIn t 6) e ∙ four-back k
-
-  one-back : fourIn s 10 ≡ 1
-  unfolding laid
-  one-back = ap (λ (t : List ℕ). fourIn t 10) e
-
-  pub behind-back : drop 14 s ≡ array ++ r
-  unfolding laid
-  behind-back = ap (drop 14) e
-
-  pub laid-length : length s ≡ 14 + length array + length r
-  unfolding laid
-  laid-length = let l = length-append array r in ap length e ∙ (omega arith)
-
+module _ (c : Coding) (sys line flags n k : ℕ) (array r s : List ℕ) (b : Says c sys line flags n k array r s) where
   pub flags-back : (fi : Bool) → flags % 2 ≡ fiRead sys fi → flags < 4 → fiRead sys fi + 2 * cond (eqb (getD s 3 0) (luma c)) 1 0 ≡ flags
   flags-back fi own small =
-      ap (λ (n : ℕ). fiRead sys fi + 2 * cond (eqb n (luma c)) 1 0) coding-back
+      ap (λ (n : ℕ). fiRead sys fi + 2 * cond (eqb n (luma c)) 1 0) (b .coded)
       ∙ ap (λ (t : Bool). fiRead sys fi + 2 * cond t 1 0) (is-luma c (eqb (flags / 2) 1))
       ∙ go (eqb (flags / 2) 1) refl
     where
@@ -172,9 +166,9 @@ module _ (c : Coding) (sys line flags n k : ℕ) (array r s : List ℕ) (e : s �
     pub structure-passes : (at : ℕ) (o : Outcome) → frontThen c sys at s (arrayThen c at s o) ≡ o
     unfolding frontThen arrayThen
     structure-passes at o =
-        let l = laid-length in
-        let m = samples-back in
-        let a = array-back in
+        let l = b .long in
+        let m = b .samples in
+        let a = b .array in
         let d = dc-there c n k least enough in
         let frame : inFrame (system sys) line ≡ true = rw (ne-eqb line 0 lined, allowed-stands (system sys) line fine) in
         let count : isCount c (twoIn s 4) ≡ true =
@@ -183,18 +177,18 @@ module _ (c : Coding) (sys line flags n k : ℕ) (array r s : List ℕ) (e : s �
         ap₂ (λ (i j : ℕ). leb (arrayFor c i) j) m a ∙ le-leb (arrayFor c n) k enough in
         let inside : leb (sizeIn s) (length s) ≡ true = le-leb (sizeIn s) (length s) (omega arith) in
         let room : (leb (arrayFor c (twoIn s 4)) (fourIn s 6) && leb (sizeIn s) (length s)) ≡ true = rw (samples, inside) in
-        right at s 0 2 _ _ (omega arith) (ap (inFrame (system sys)) line-back ∙ frame)
-        ∙ right at s 2 1 _ _ (omega arith) (eq-eqb (getD s 2 0) (wrapping sys) wrapping-back)
-        ∙ right at s 3 1 _ _ (omega arith) (ap (isCoding c) coding-back ∙ is-coding c (eqb (flags / 2) 1))
+        right at s 0 2 _ _ (omega arith) (ap (inFrame (system sys)) (b .line) ∙ frame)
+        ∙ right at s 2 1 _ _ (omega arith) (eq-eqb (getD s 2 0) (wrapping sys) (b .wrapped))
+        ∙ right at s 3 1 _ _ (omega arith) (ap (isCoding c) (b .coded) ∙ is-coding c (eqb (flags / 2) 1))
         ∙ right at s 4 2 _ _ (omega arith) count
         ∙ right at s 6 4 _ _ (omega arith) room
-        ∙ right at s 10 4 _ _ (omega arith) (eq-eqb (fourIn s 10) 1 one-back)
+        ∙ right at s 10 4 _ _ (omega arith) (eq-eqb (fourIn s 10) 1 (b .single))
         ∙ right at s 16 (dcBytes c) _ _ (omega arith) (eq-eqb (dcIn c s + others c) (twoIn s 4) (dc ∙ sym m))
 
   pub rest-back : k ≡ length array → drop (sizeIn s) s ≡ r
   rest-back whole =
       sym (drop-drop (fourIn s 6) 14 s)
-      ∙ ap₂ (λ (n : ℕ) (t : List ℕ). drop n t) (array-back ∙ whole) behind-back
+      ∙ ap₂ (λ (n : ℕ) (t : List ℕ). drop n t) (b .array ∙ whole) (b .behind)
       ∙ drop-at array r (length array) refl
 
 -- ---- a structure: what is read was written

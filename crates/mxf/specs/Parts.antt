@@ -49,16 +49,20 @@ addTo k numbers (listed ps) = counted (k + length ps) (numbers + (2 * length ps 
 addTo k numbers (refused n i) = record { number = n; place = i; packets = 0; numbers = 0 }
 
 -- the structures from a place on, with the packets in front of them: what is left of the whole
-abbrev pub wholeFrom : ℕ → Bool → ℕ → ℕ → ℕ → ℕ → List ℕ → ElementRead
-wholeFrom sys fi n k at numbers s = addTo k numbers (structures eight sys fi (n - k) (22 + at) (drop at s))
+abbrev pub wholeFrom : Coding → ℕ → Bool → ℕ → ℕ → ℕ → ℕ → List ℕ → ElementRead
+wholeFrom c sys fi n k at numbers s = addTo k numbers (structures c sys fi (n - k) (22 + at) (drop at s))
 
 -- k of n structures end at a place, and with their figures those from there on give what all of them give. A structure has more bytes than
 -- its packet has sheet numbers
-pub record Begun (sys last n : ℕ) (s : List ℕ) (k at numbers : ℕ) : Type 0 where
+pub record BegunAs (c : Coding) (sys last n : ℕ) (s : List ℕ) (k at numbers : ℕ) : Type 0 where
   pub few : k ≤ n
   pub inside : at ≤ length s
   pub short : numbers ≤ 4 + at
-  pub same : last ≡ system sys .last → (fi : Bool) → wholeFrom sys fi n k at numbers s ≡ readOf sys (structures eight sys fi n 22 s)
+  pub same : last ≡ system sys .last → (fi : Bool) → wholeFrom c sys fi n k at numbers s ≡ readOf sys (structures c sys fi n 22 s)
+
+-- "Coding is 8-bit"
+abbrev pub Begun : ℕ → ℕ → ℕ → List ℕ → ℕ → ℕ → ℕ → Type 0
+Begun sys last n s k at numbers = BegunAs eight sys last n s k at numbers
 
 -- ---- the packets of structures
 

@@ -1,20 +1,20 @@
 -- An element of ten-bit samples is read as it was written, and what is read was written so, for some bits and bytes that a reader disregards.
 --
--- In order: DC; a structure, as written and as read; an element, both ways.
+-- In order: a structure, as written and as read; an element, both ways.
 -- Assumes nothing.
-use Prim.Native.Nat.{ℕ, _+_, _*_, _/_, _%_, _≤_}
+use Prim.Native.Nat.{ℕ, _+_, _≤_}
 use mathlib.Core.Path.{_≡_, refl, sym, ap, ap₂, _∙_, subst}
 use mathlib.Core.Bool.{Bool, true}
 use mathlib.Core.List.{List, [], _∷_, _++_, append-nil}
 use native.Mathlib.Omega.{arith}
-use lib.ListN.{length, getD, take, drop, length-append, length-drop, take-append-drop, drop-of-length-le}
-use lib.Seq.{getD-take, getD-drop, take-at, length-take-le}
+use lib.ListN.{length, getD, take, drop, length-append, take-append-drop, drop-of-length-le}
+use lib.Seq.{getD-drop, take-at}
 use borrow.Author.Tests.{le-ltb, le-leb}
 use Rattle.rules.specs.Base.{All, Bytes, joined}
 use Rattle.rules.specs.Systems.{system, allowed}
 use Rattle.rules.specs.Packet.{Packet, coded, checkOf, words, Found}
 use Rattle.rules.specs.Numbers.{Outcome, listed}
-use Rattle.rules.specs.Laying.{low, dcIn as dcOf}
+use Rattle.rules.specs.Laying.{dcIn as dcOf}
 use Rattle.rules.specs.Found.{isTen, areTen, foundFault, foundOfWords, foundRow}
 use Rattle.rules.proofs.Basics.{both, take-bytes, drop-bytes}
 use Rattle.rules.proofs.Lines.{OnAllowed}
@@ -23,40 +23,16 @@ use Rattle.rules.proofs.Sheets.{moved}
 use Rattle.rules.proofs.Found.{ten-append, ten-parts, found-back, found-uncut, found-moved}
 use Rattle.mxf.specs.Element.{ten}
 use Rattle.mxf.specs.Judging.{twoIn, fourIn, samplesIn, arrayFor, sizeIn, dcIn, frontThen, arrayThen, sampled, packetIn}
+use Rattle.mxf.specs.Parts.{Whole}
 use Rattle.mxf.proofs.Inversion.{Structure}
-use Rattle.mxf.proofs.Structures.{laid, line-back, samples-back, array-back, behind-back, laid-length, flags-back, structure-passes, rest-back}
+use Rattle.mxf.proofs.Structures.{laid, Says, laid-says, flags-back, structure-passes, rest-back}
 use Rattle.mxf.proofs.Structures.{flagsIn, flags-small, flags-own, array-long, array-rest, structure-split}
 use Rattle.mxf.proofs.Structures.{packets-give, Kind, ElementBy, element-read, element-one, element-written}
 use Rattle.mxf10.specs.Element.{Arrayed, packetsOf, source, samples, structure, value, element}
 use Rattle.mxf10.specs.Reading.{judged}
 use Rattle.mxf10.specs.Demands.{Held, Gives}
-use Rattle.mxf10.proofs.TensLaws.{samples-length, samples-ten, samples-append, ten-at}
-
--- ---- DC
-
--- the third sample's low byte lies in the second pair of an array's bytes
-third-low : (t : List ℕ) → 4 ≤ length t → low (getD (samplesIn t) 2 0) ≡ twoIn t 2 / 4 % 256
-third-low [] h = absurd (omega arith)
-third-low (a ∷ []) h = absurd (omega arith)
-third-low (a ∷ b ∷ []) h = absurd (omega arith)
-third-low (a ∷ b ∷ c ∷ []) h = absurd (omega arith)
-third-low (a ∷ b ∷ c ∷ d ∷ t) h =
-    let e : (a * 16777216 + (b * 65536 + (c * 256 + d))) / 4 ≡ (a * 16384 + b * 64) * 256 + (c * 256 + d) / 4 = omega arith in
-    go ((a * 16777216 + (b * 65536 + (c * 256 + d))) / 4) (a * 16384 + b * 64) ((c * 256 + d) / 4) e
-  where
-    go : (z h m : ℕ) → z ≡ h * 256 + m → z % 1024 % 256 ≡ m % 256
-    go z h m e = omega arith
-
--- DC's low byte in a structure is that of its samples, as words behind a flag
-dc-shown : (s : List ℕ) (n : ℕ) → 4 ≤ n → 18 ≤ length s → dcOf (0x000 ∷ 0x3FF ∷ 0x3FF ∷ take n (samplesIn (drop 14 s))) ≡ dcIn ten s
-dc-shown s n h l =
-    ap low (getD-take n (samplesIn (drop 14 s)) 2 0 (omega arith))
-    ∙ third-low (drop 14 s) (let k = length-drop 14 s in omega arith)
-    ∙ ap₂ (λ (a b : ℕ). (a * 256 + b) / 4 % 256) (getD-drop 14 s 2 0) (getD-drop 14 s 3 0)
-
-ten-take : (n : ℕ) (ws : List ℕ) → areTen ws ≡ true → areTen (take n ws) ≡ true
-ten-take n ws e =
-    both (areTen (take n ws)) (areTen (drop n ws)) (sym (ten-append (take n ws) (drop n ws)) ∙ ap areTen (take-append-drop n ws) ∙ e) .0
+use Rattle.mxf10.proofs.TensLaws.{samples-ten, samples-append, ten-at}
+use Rattle.mxf10.proofs.Samples.{dc-sample, shown-long, dc-shown}
 
 -- ---- a structure: what is written is read
 
@@ -78,15 +54,15 @@ module _ (sys : ℕ) (fi : Bool) (x : Arrayed) (r : List ℕ) (g : Held sys fi x
   abbrev size : ℕ
   size = length (x .array)
 
-  is-laid : s ≡ laid ten sys (p .line) (p .flags) (samples p) size (x .array) ++ r
+  says : Says ten sys (p .line) (p .flags) (samples p) size (x .array) r s
   unfolding structure laid
-  is-laid = refl
+  says = laid-says ten sys (p .line) (p .flags) (samples p) size (x .array) r s refl
 
   samples-shown : take (twoIn s 4) (samplesIn (drop 14 s)) ≡ source p
   samples-shown =
-      let n = samples-back ten sys (p .line) (p .flags) (samples p) size (x .array) r s is-laid in
-      let b = behind-back ten sys (p .line) (p .flags) (samples p) size (x .array) r s is-laid in
-      ap₂ (λ (n : ℕ) (t : List ℕ). take n (samplesIn t)) n b ∙ samples-append (x .array) r (samples p) (g .long) ∙ g .shows
+      ap₂ (λ (n : ℕ) (t : List ℕ). take n (samplesIn t)) (says .samples) (says .behind)
+      ∙ samples-append (x .array) r (samples p) (g .long)
+      ∙ g .shows
 
   words-shown : 0x000 ∷ 0x3FF ∷ 0x3FF ∷ take (twoIn s 4) (samplesIn (drop 14 s)) ≡ words p ++ []
   unfolding words
@@ -94,36 +70,38 @@ module _ (sys : ℕ) (fi : Bool) (x : Arrayed) (r : List ℕ) (g : Held sys fi x
 
   dc-back : dcIn ten s + 4 ≡ samples p
   dc-back =
-      let n = samples-back ten sys (p .line) (p .flags) (samples p) size (x .array) r s is-laid in
-      let l = laid-length ten sys (p .line) (p .flags) (samples p) size (x .array) r s is-laid in
+      let n = says .samples in
+      let l = says .long in
       let h = g .long in
-      let d = sym (dc-shown s (twoIn s 4) (omega arith) (omega arith)) ∙ ap dcOf words-shown ∙ dc-low p [] (g .found .within .many) in
+      let d = sym (dc-sample s (twoIn s 4) (omega arith) (omega arith)) ∙ ap dcOf words-shown ∙ dc-low p [] (g .found .within .many) in
       ap (λ (k : ℕ). k + 4) d
 
   passes : (at : ℕ) (o : Outcome) → frontThen ten sys at s (arrayThen ten at s o) ≡ o
   passes =
       let m = g .found .within .many in
-      structure-passes ten sys (p .line) (p .flags) (samples p) size (x .array) r s is-laid (g .lined) (g .found .within .line) (omega arith)
+      structure-passes ten sys (p .line) (p .flags) (samples p) size (x .array) r s says (g .lined) (g .found .within .line) (omega arith)
       (omega arith) (g .long) refl dc-back
 
   structure-packet : packetIn ten sys fi s ≡ p
   structure-packet =
       let shown : sampled ten s ≡ bare p = ap foundOfWords words-shown ∙ found-back (system sys) p [] (g .found) in
-      let line = line-back ten sys (p .line) (p .flags) (samples p) size (x .array) r s is-laid in
-      let flags = flags-back ten sys (p .line) (p .flags) (samples p) size (x .array) r s is-laid fi (g .own) (g .found .within .flags) in
-      λ i. record { did = shown i .did; sdid = shown i .sdid; user = shown i .user; line = line i; flags = flags i; mark = shown i .mark }
+      let flags = flags-back ten sys (p .line) (p .flags) (samples p) size (x .array) r s says fi (g .own) (g .found .within .flags) in
+      λ i. record { did = shown i .did; sdid = shown i .sdid; user = shown i .user; line = says .line i; flags = flags i; mark = shown i .mark }
 
   structure-rest : drop (sizeIn s) s ≡ r
-  structure-rest = rest-back ten sys (p .line) (p .flags) (samples p) size (x .array) r s is-laid refl
+  structure-rest = rest-back ten sys (p .line) (p .flags) (samples p) size (x .array) r s says refl
 
   structure-arrayed : arrayedIn sys fi s ≡ x
   structure-arrayed =
-      let n = array-back ten sys (p .line) (p .flags) (samples p) size (x .array) r s is-laid in
-      let b = behind-back ten sys (p .line) (p .flags) (samples p) size (x .array) r s is-laid in
-      let array : take (fourIn s 6) (drop 14 s) ≡ x .array = ap₂ (λ (n : ℕ) (t : List ℕ). take n t) n b ∙ take-at (x .array) r size refl in
+      let array : take (fourIn s 6) (drop 14 s) ≡ x .array =
+      ap₂ (λ (n : ℕ) (t : List ℕ). take n t) (says .array) (says .behind) ∙ take-at (x .array) r size refl in
       λ i. record { packet = structure-packet i; array = array i }
 
 -- ---- a structure: what is read was written
+
+ten-take : (n : ℕ) (ws : List ℕ) → areTen ws ≡ true → areTen (take n ws) ≡ true
+ten-take n ws e =
+    both (areTen (take n ws)) (areTen (drop n ws)) (sym (ten-append (take n ws) (drop n ws)) ∙ ap areTen (take-append-drop n ws) ∙ e) .0
 
 module _ (sys : ℕ) (fi : Bool) (s : List ℕ) (hs : Bytes s) (g : Structure ten sys s) where
   abbrev x : Arrayed
@@ -142,22 +120,17 @@ module _ (sys : ℕ) (fi : Bool) (s : List ℕ) (hs : Bytes s) (g : Structure te
   abbrev W : List ℕ
   W = 0x000 ∷ 0x3FF ∷ 0x3FF ∷ ws
 
+  array-whole : Whole ten s
+  array-whole = record { there = g .inside; room = g .enough; dc = g .dc }
+
   ws-long : length ws ≡ n
-  ws-long =
-      let l = length-drop 14 s in
-      let a = g .enough in
-      let b = g .inside in
-      length-take-le n (samplesIn (drop 14 s)) (samples-length (drop 14 s) n (omega arith))
+  ws-long = shown-long sys fi s array-whole
 
   ws-ten : areTen ws ≡ true
   ws-ten = ten-take n (samplesIn (drop 14 s)) (samples-ten (drop 14 s) (drop-bytes 14 s hs))
 
   dc-in : dcOf W + 4 ≡ n
-  dc-in =
-      let a = g .least in
-      let b = g .enough in
-      let c = g .inside in
-      ap (λ (k : ℕ). k + 4) (dc-shown s n (omega arith) (omega arith)) ∙ g .dc
+  dc-in = ap (λ (k : ℕ). k + 4) (dc-shown sys fi s array-whole) ∙ g .dc
 
   no-fault : foundFault W ≡ 0
   unfolding foundFault

@@ -6,6 +6,7 @@ use native.Mathlib.Omega.{arith}
 use lib.ListN.{length}
 use borrow.Author.Needs.{needs}
 use borrow.Author.Tests.{ltb-true, ltb-false}
+use Rattle.mxf.specs.Element.{eight}
 use Rattle.mxf.specs.Judging.{twoIn, fourIn, sizeIn}
 use Rattle.mxf.proofs.JudgingLaws.{
   count-missing,
@@ -63,7 +64,7 @@ add-missing : tie.Need-add-missing
 add-missing c = search needs
 
 returns : tie.Need-returns
-returns c = (λ o. count-missing _ _ (c .before .before .pre .0) o (c .if1 .taken), λ z. absurd (omega arith))
+returns c = (λ o. count-missing eight _ _ (c .before .before .pre .0) o (c .if1 .taken), λ z. absurd (omega arith))
 
 two-requires : tie.Need-two-requires
 two-requires c κs = search needs
@@ -78,8 +79,8 @@ returns-2 c =
     let pos = f .before .before .pre .0 in (
       λ o.
           ⊎-elim
-          (λ w. let l = w .taken in too-few _ _ pos o (f .if1 .left) (omega arith))
-          (λ w. let l = w .1 .taken in too-many _ _ pos o (f .if1 .left) (omega (arith, ltb-true)))
+          (λ w. let l = w .taken in too-few eight _ _ pos o (f .if1 .left) (omega arith))
+          (λ w. let l = w .1 .taken in too-many eight _ _ pos o (f .if1 .left) (omega (arith, ltb-true)))
           (c .if2 .came),
       λ z. absurd (omega arith),
     )
@@ -88,7 +89,7 @@ returns-3 : tie.Need-returns-3
 returns-3 c =
     let b : tie.Else3 = c .before in
     let f = b .before .before .before in
-    (λ o. array-missing _ _ (f .before .before .pre .0) o (f .if1 .left) (least b) (most b) (c .if4 .taken), λ z. absurd (omega arith))
+    (λ o. array-missing eight _ _ (f .before .before .pre .0) o (f .if1 .left) (least b) (most b) (c .if4 .taken), λ z. absurd (omega arith))
 
 four-requires : tie.Need-four-requires
 four-requires c κs = search needs
@@ -109,8 +110,8 @@ returns-4 c =
     let x = c .before .four .ensures .0 in (
       λ o.
           ⊎-elim
-          (λ w. let l = w .taken in array-small _ _ pos o (f .if1 .left) (least b) (most b) (g .if4 .left) (omega arith))
-          (λ w. let l = w .1 .taken in array-past _ _ pos o (f .if1 .left) (least b) (most b) (g .if4 .left) (omega (arith, ltb-true)))
+          (λ w. let l = w .taken in array-small eight _ _ pos o (f .if1 .left) (least b) (most b) (g .if4 .left) (omega arith))
+          (λ w. let l = w .1 .taken in array-past eight _ _ pos o (f .if1 .left) (least b) (most b) (g .if4 .left) (omega (arith, ltb-true)))
           (c .if5 .came),
       λ z. absurd (omega arith),
     )
@@ -128,7 +129,7 @@ returns-5 c =
     let f = d b .before .before .before in
     let x = c .before .four2 .ensures .0 in (
       λ o.
-          element-wrong _ _ (f .before .before .pre .0) o (f .if1 .left) (least (d b)) (most (d b)) (g .if4 .left) (room b) (there b)
+          element-wrong eight _ _ (f .before .before .pre .0) o (f .if1 .left) (least (d b)) (most (d b)) (g .if4 .left) (room b) (there b)
           (λ z. let h = c .if7 .taken in omega arith),
       λ z. absurd (omega arith),
     )
@@ -159,7 +160,7 @@ returns-6 c =
     let e = d b .before .before .two .ensures .0 in
     let y = c .before .wide .ensures .0 in (
       λ o.
-          dc-wrong _ _ (f .before .before .pre .0) o (f .if1 .left) (least (d b)) (most (d b)) (g .if4 .left) (room b) (there b)
+          dc-wrong eight _ _ (f .before .before .pre .0) o (f .if1 .left) (least (d b)) (most (d b)) (g .if4 .left) (room b) (there b)
           (omega arith)
           (λ z. let h = c .if8 .taken in omega arith),
       λ z. absurd (omega arith),
@@ -176,7 +177,7 @@ returns-7 c =
     let y = c .before .wide .ensures .0 in
     let h = c .if8 .left in (
       λ o.
-          array-right _ _ (f .before .before .pre .0) o (f .if1 .left) (least (d b)) (most (d b)) (g .if4 .left) (room b) (there b)
+          array-right eight _ _ (f .before .before .pre .0) o (f .if1 .left) (least (d b)) (most (d b)) (g .if4 .left) (room b) (there b)
           (omega arith)
           (omega arith),
       λ z. record { there = there b; room = room b; dc = omega arith },

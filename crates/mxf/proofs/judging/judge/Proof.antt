@@ -4,6 +4,7 @@ use mathlib.Core.Path.{_≡_, _∙_}
 use native.Mathlib.Omega.{arith}
 use lib.ListN.{length}
 use borrow.Author.Needs.{needs}
+use Rattle.mxf.specs.Element.{eight}
 use Rattle.mxf.proofs.JudgingLaws.{head-wrong, from-structures}
 use Rattle.mxf.proofs.judging.judge.Statement.{statement}
 use Rattle.mxf.proofs.judging.judge.Tie as tie
@@ -27,7 +28,7 @@ refusal-requires c κs = search needs
 
 returns : tie.Need-returns
 returns c d fi =
-    c .refusal .ensures ∙ head-wrong _ fi _ _ (c .before .before .head-fault .ensures .1) (c .before .if1 .taken)
+    c .refusal .ensures ∙ head-wrong eight _ fi _ _ (c .before .before .head-fault .ensures .1) (c .before .if1 .taken)
 
 two-requires : tie.Need-two-requires
 two-requires c κs = let l = long c .0 in omega arith
@@ -50,7 +51,7 @@ judge-structures-requires c κs =
 returns-2 : tie.Need-returns-2
 returns-2 c d fi =
     let n = c .before .before .before in
-    from-structures _ fi _ _ (n .before .before .head-fault .ensures .1) (right (n .before)) _ (n .two .ensures .0) _
+    from-structures eight _ fi _ _ (n .before .before .head-fault .ensures .1) (right (n .before)) _ (n .two .ensures .0) _
     (c .judge-structures .ensures d fi)
 
 sub-judge-structures-2 : tie.Need-sub-judge-structures-2
@@ -71,7 +72,7 @@ judge-structures-requires-2 c κs =
 returns-3 : tie.Need-returns-3
 returns-3 c d fi =
     let n = c .before .before .before in
-    from-structures _ fi _ _ (n .before .before .head-fault .ensures .1) (right (n .before)) _ (n .two .ensures .0) _
+    from-structures eight _ fi _ _ (n .before .before .head-fault .ensures .1) (right (n .before)) _ (n .two .ensures .0) _
     (c .judge-structures2 .ensures d fi)
 
 pub judge-spec : {M : Type 1} → statement M

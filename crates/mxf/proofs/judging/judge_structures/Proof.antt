@@ -9,7 +9,7 @@ use borrow.Author.Needs.{needs}
 use Rattle.mxf.specs.Element.{eight}
 use Rattle.mxf.specs.Judging.{twoIn, fourIn}
 use Rattle.mxf.specs.Parts.{Whole, Begun}
-use Rattle.mxf.proofs.JudgingLaws.{at-surplus, at-end, all-there, samples-there, at-fault, at-next}
+use Rattle.mxf.proofs.JudgingLaws.{at-surplus, at-end, all-there, whole, samples-there, packet-long, at-fault, at-next}
 use Rattle.mxf.proofs.judging.judge_structures.Statement.{statement}
 use Rattle.mxf.proofs.judging.judge_structures.Tie as tie
 
@@ -31,10 +31,10 @@ module _ (c : tie.Else1 Inv-loop μ-loop) where
   passed = c .before .structure-fault .ensures .1 (c .if1 .left)
 
   there : at + (14 + fourIn s (at + 6)) ≤ length s
-  there = all-there at s passed (c .before .before .before .before .loop .inv .inside)
+  there = all-there eight at s passed (c .before .before .before .before .loop .inv .inside)
 
   samples : twoIn s (at + 4) ≤ fourIn s (at + 6)
-  samples = samples-there at s passed
+  samples = samples-there eight at s passed
 
 loop-holds : tie.Need-loop-holds Inv-loop μ-loop
 loop-holds c = c .sound-structures .ensures
@@ -67,7 +67,7 @@ returns c =
     let a = f .before .before .before .before .before .before .args in
     λ e fi.
     c .refusal .ensures
-    ∙ at-fault (a .system) fi (a .n) (l .k) (l .at) (l .numbers) (a .s .now) (f .before .before .loop-test .taken) _
+    ∙ at-fault eight (a .system) fi (a .n) (l .k) (l .at) (l .numbers) (a .s .now) (f .before .before .loop-test .taken) _
     (f .structure-fault .ensures .0 e) (c .before .if1 .taken)
     ∙ l .inv .same e fi
 
@@ -124,8 +124,9 @@ loop-again c =
       inside = omega arith;
       short = omega arith;
       same = λ e fi.
-          at-next (a .system) fi (a .n) (l .k) (l .at) (l .numbers) (a .s .now) (f .before .before .loop-test .taken) _
-          (f .structure-fault .ensures .0 e) (b .if1 .left) (passed b) _ _ d g
+          at-next eight (a .system) fi (a .n) (l .k) (l .at) (l .numbers) (a .s .now) (f .before .before .loop-test .taken) _
+          (f .structure-fault .ensures .0 e) (b .if1 .left)
+          4 (packet-long (a .system) fi (drop (l .at) (a .s .now)) (whole eight (l .at) (a .s .now) (passed b))) _ _ d g
           ∙ i .same e fi;
     }
 
@@ -141,7 +142,7 @@ returns-2 c =
     let a = c .before .before .before .before .before .before .args in
     λ e fi.
     c .refusal2 .ensures
-    ∙ at-surplus (a .system) fi (a .n) (l .k) (l .at) (l .numbers) (a .s .now) (omega arith) (omega arith)
+    ∙ at-surplus eight (a .system) fi (a .n) (l .k) (l .at) (l .numbers) (a .s .now) (omega arith) (omega arith)
     ∙ l .inv .same e fi
 
 returns-3 : tie.Need-returns-3 Inv-loop μ-loop
@@ -149,7 +150,7 @@ returns-3 c =
     let l = c .before .before .loop in
     let a = c .before .before .before .before .before .args in
     λ e fi.
-    at-end (a .system) fi (a .n) (l .k) (l .at) (l .numbers) (a .s .now) (omega arith) (omega arith)
+    at-end eight (a .system) fi (a .n) (l .k) (l .at) (l .numbers) (a .s .now) (omega arith) (omega arith)
     ∙ l .inv .same e fi
 
 pub judge-structures-spec : {M : Type 1} → statement M

@@ -11,7 +11,7 @@ use borrow.Author.Tests.{not-false}
 use Rattle.mxf.specs.Element.{eight}
 use Rattle.mxf.specs.Judging.{twoIn, fourIn}
 use Rattle.mxf.specs.Parts.{Whole, Begun}
-use Rattle.mxf.proofs.JudgingLaws.{at-first, all-there, samples-there, at-next}
+use Rattle.mxf.proofs.JudgingLaws.{at-first, all-there, whole, samples-there, packet-long, at-next}
 use Rattle.mxf.proofs.judging.sound_structures.Statement.{statement}
 use Rattle.mxf.proofs.judging.sound_structures.Tie as tie
 
@@ -33,10 +33,10 @@ module _ (c : tie.Else1 Inv-loop μ-loop) where
   passed = c .before .is-structure .ensures .0 (not-false _ (c .if1 .left))
 
   there : at + (14 + fourIn s (at + 6)) ≤ length s
-  there = all-there at s passed (c .before .before .before .before .loop .inv .inside)
+  there = all-there eight at s passed (c .before .before .before .before .loop .inv .inside)
 
   samples : twoIn s (at + 4) ≤ fourIn s (at + 6)
-  samples = samples-there at s passed
+  samples = samples-there eight at s passed
 
 wrapping-requires : tie.Need-wrapping-requires Inv-loop μ-loop
 wrapping-requires c κs = search needs
@@ -44,7 +44,7 @@ wrapping-requires c κs = search needs
 loop-holds : tie.Need-loop-holds Inv-loop μ-loop
 loop-holds c =
     let a = c .before .before .args in
-    record { few = omega arith; inside = omega arith; short = omega arith; same = λ e fi. at-first (a .system) fi (a .n) (a .s .now) }
+    record { few = omega arith; inside = omega arith; short = omega arith; same = λ e fi. at-first eight (a .system) fi (a .n) (a .s .now) }
 
 sub-is-structure : tie.Need-sub-is-structure Inv-loop μ-loop
 sub-is-structure c = let i = c .before .loop .inv .inside in omega arith
@@ -118,9 +118,9 @@ loop-again c =
       inside = omega arith;
       short = omega arith;
       same = λ e fi.
-          at-next (a .system) fi (a .n) (l .k) (l .at) (l .numbers) (a .s .now) h 0
+          at-next eight (a .system) fi (a .n) (l .k) (l .at) (l .numbers) (a .s .now) h 0
           (f .is-structure .ensures .1 (not-false _ (b .if1 .left)) (a .system) (w .wrapping .ensures) e (l .at))
-          refl (passed b) _ _ d g
+          refl 4 (packet-long (a .system) fi (drop (l .at) (a .s .now)) (whole eight (l .at) (a .s .now) (passed b))) _ _ d g
           ∙ i .same e fi;
     }
 
