@@ -1,7 +1,6 @@
 -- Reading an element that has been found right: its structures one after the other, and what is written of the sheet so far.
 --
--- In order: the structures that are left; the words of a packet; locations; lines; the
--- words of packets; the sections; the answer.
+-- In order: the structures that are left; locations; lines; the words of packets, and those of 8-bit samples; the sections; the answer.
 -- Assumes nothing.
 use Prim.Native.Nat.{ℕ, suc, _+_, _-_, _*_, _≤_, _<_}
 use mathlib.Core.Path.{_≡_, refl, sym, ap, ap₂, _∙_, subst}
@@ -34,7 +33,7 @@ use Rattle.sheet.proofs.Filling.{sheet-before, sheet-lent, sheet-long, sheet-fi
 use Rattle.mxf.specs.Served.{fiRead}
 use Rattle.mxf.specs.Element.{Coding, eight, luma}
 use Rattle.mxf.specs.Judging.{twoIn, fourIn, others, arrayFor, sizeIn, dcIn, packetIn, structures, judged, judgedAs}
-use Rattle.mxf.specs.Reading.{lastTests, packetTests, reading, readOf, read, sheetAfter}
+use Rattle.mxf.specs.Reading.{lastTests, packetTests, readingOf, reading, readOf, read, sheetAfter}
 use Rattle.mxf.specs.Demands.{Reads}
 use Rattle.mxf.specs.Parts.{packetsOfStructures, Judged, Sized, Answers}
 use Rattle.mxf.specs.declared.ElementRead.{ElementRead}
@@ -103,23 +102,6 @@ module _ (c : Coding) (sys : ℕ) (fi : Bool) (n : ℕ) (s : List ℕ) where
         front = m .front ∙ ap (λ (r : List Packet). packetIn c sys fi t ∷ r) (sym g);
         later = f ∙ ap listed (sym g);
       }
-
--- ---- the words of a packet
-
--- "samples run from DID to the last user word"
-pub packet-framed : (sys : ℕ) (fi : Bool) (t : List ℕ) (n : ℕ) → getD t 16 0 + 3 ≡ n → 14 + n ≤ length t
-    → words (packetIn eight sys fi t) ≡ framed (map word (take n (drop 14 t)))
-unfolding words coded checkOf framed
-packet-framed sys fi t n e h =
-    let d : ℕ = getD t 16 0 in
-    let l : length (take d (drop 17 t)) ≡ d = length-take-le d (drop 17 t) (let x = length-drop 17 t in omega arith) in
-    let a : drop 14 t ≡ getD t 14 0 ∷ getD t 15 0 ∷ d ∷ drop 17 t =
-    drop-cons t 14 0 (omega arith)
-    ∙ ap (λ (r : List ℕ). getD t 14 0 ∷ r) (drop-cons t 15 0 (omega arith))
-    ∙ ap (λ (r : List ℕ). getD t 14 0 ∷ getD t 15 0 ∷ r) (drop-cons t 16 0 (omega arith)) in
-    let b : take n (drop 14 t) ≡ body (packetIn eight sys fi t) =
-    ap₂ take (sym e ∙ add-three d) a ∙ ap (λ (m : ℕ). getD t 14 0 ∷ getD t 15 0 ∷ m ∷ take d (drop 17 t)) (sym l) in
-    ap (λ (r : List ℕ). 0x000 ∷ 0x3FF ∷ 0x3FF ∷ (map word r ++ check (map word r) ∷ [])) (sym b)
 
 -- ---- locations
 
@@ -219,127 +201,158 @@ module _ (c : Coding) (sys : ℕ) (fi : Bool) (n : ℕ) (s : List ℕ) (last : �
 -- ---- the words of packets
 
 -- the words of the packets before `at` are written, o of them
-pub record Wording (sys : ℕ) (fi : Bool) (n : ℕ) (s out : List ℕ) (k at o : ℕ) : Type 0 where
-  pub left : Left eight sys fi n s k at
-  pub room : o + length (allWords (restOf eight sys fi n s k at)) ≡ length out
-  pub written : take o out ++ allWords (restOf eight sys fi n s k at) ≡ allWords (packetsOfStructures eight sys fi n s)
+pub record Wording (c : Coding) (sys : ℕ) (fi : Bool) (n : ℕ) (s out : List ℕ) (k at o : ℕ) : Type 0 where
+  pub left : Left c sys fi n s k at
+  pub room : o + length (allWords (restOf c sys fi n s k at)) ≡ length out
+  pub written : take o out ++ allWords (restOf c sys fi n s k at) ≡ allWords (packetsOfStructures c sys fi n s)
 
-module _ (sys : ℕ) (fi : Bool) (n : ℕ) (s out : List ℕ) where
-  pub wording-none : Judged eight sys fi n s → length out ≡ length (allWords (packetsOfStructures eight sys fi n s)) → Wording sys fi n s out 0 0 0
+module _ (c : Coding) (sys : ℕ) (fi : Bool) (n : ℕ) (s out : List ℕ) where
+  pub wording-none : Judged c sys fi n s → length out ≡ length (allWords (packetsOfStructures c sys fi n s)) → Wording c sys fi n s out 0 0 0
   wording-none j l =
-      let e : allWords (restOf eight sys fi n s 0 0) ≡ allWords (packetsOfStructures eight sys fi n s) = ap allWords (rest-all eight sys fi n s) in
-      let z : length (allWords (restOf eight sys fi n s 0 0)) ≡ length out = ap length e ∙ sym l in
-      record { left = left-all eight sys fi n s j; room = omega arith; written = e }
+      let e : allWords (restOf c sys fi n s 0 0) ≡ allWords (packetsOfStructures c sys fi n s) = ap allWords (rest-all c sys fi n s) in
+      let z : length (allWords (restOf c sys fi n s 0 0)) ≡ length out = ap length e ∙ sym l in
+      record { left = left-all c sys fi n s j; room = omega arith; written = e }
 
-  pub wording-all : (k at o : ℕ) → Wording sys fi n s out k at o → n ≤ k → out ≡ allWords (packetsOfStructures eight sys fi n s)
+  pub wording-all : (k at o : ℕ) → Wording c sys fi n s out k at o → n ≤ k → out ≡ allWords (packetsOfStructures c sys fi n s)
   wording-all k at o was h =
-      let none = left-none eight sys fi n s k at (was .left) h in
-      let z : length (allWords (restOf eight sys fi n s k at)) ≡ 0 = ap (λ (r : List Packet). length (allWords r)) none in
+      let none = left-none c sys fi n s k at (was .left) h in
+      let z : length (allWords (restOf c sys fi n s k at)) ≡ 0 = ap (λ (r : List Packet). length (allWords r)) none in
       let l = was .room in
-      all-written out (allWords (restOf eight sys fi n s k at)) (allWords (packetsOfStructures eight sys fi n s)) o (omega arith) (ap allWords none)
+      all-written out (allWords (restOf c sys fi n s k at)) (allWords (packetsOfStructures c sys fi n s)) o (omega arith) (ap allWords none)
       (was .written)
 
-  -- a turn
-  module _ (k at o : ℕ) (was : Wording sys fi n s out k at o) (h : k < n) where
+  -- how many there are to write does not change
+  pub wording-long : (k at o : ℕ) → Wording c sys fi n s out k at o → length out ≡ length (allWords (packetsOfStructures c sys fi n s))
+  wording-long k at o was =
+      let r = was .room in
+      let l = length-take-le o out (omega arith) in
+      let a = length-append (take o out) (allWords (restOf c sys fi n s k at)) in
+      (omega arith) ∙ sym a ∙ ap length (was .written)
+
+  -- a turn: the words of one packet, `long` of them
+  module _ (k at o : ℕ) (was : Wording c sys fi n s out k at o) (h : k < n) (long : ℕ)
+      (is : length (words (packetIn c sys fi (drop at s))) ≡ long) where
+    abbrev packet : List ℕ
+    packet = words (packetIn c sys fi (drop at s))
+
     abbrev count : ℕ
     count = fourIn s (at + 6)
 
-    abbrev samples : ℕ
-    samples = twoIn s (at + 4)
+    step : Turn c sys fi n s k at
+    step = turn c sys fi n s k at (was .left) h
 
-    abbrev qs : List Packet
-    qs = restOf eight sys fi n s (k + 1) (at + 14 + count)
-
-    step : Turn eight sys fi n s k at
-    step = turn eight sys fi n s k at (was .left) h
-
-    packet-is : words (packetIn eight sys fi (drop at s)) ≡ framed (map word (take samples (drop (at + 14) s)))
-    packet-is =
-        let a = step .inside in
-        let b = step .enough in
-        packet-framed sys fi (drop at s) samples (step .dc) (let x = length-drop at s in omega arith)
-        ∙ ap (λ (r : List ℕ). framed (map word (take samples r))) (drop-drop 14 at s)
-
-    user-long : length (packetIn eight sys fi (drop at s) .user) ≡ getD (drop at s) 16 0
-    user-long =
-        let a = step .inside in
-        let b = step .enough in
-        let d = step .dc in
-        length-take-le (getD (drop at s) 16 0) (drop 17 (drop at s))
-        (let x = length-drop at s in let y = length-drop 17 (drop at s) in omega arith)
-
-    packet-long : length (words (packetIn eight sys fi (drop at s))) ≡ samples + 4
-    packet-long = packet-words (packetIn eight sys fi (drop at s)) ∙ (let u = user-long in let d = step .dc in omega arith)
-
-    pub wording-room : o + samples + 4 ≤ length out
+    pub wording-room : o + long ≤ length out
     wording-room =
         let l = was .room in
-        let a : length (allWords (restOf eight sys fi n s k at)) ≡ length (words (packetIn eight sys fi (drop at s)) ++ allWords qs) =
+        let qs : List Packet = restOf c sys fi n s (k + 1) (at + 14 + count) in
+        let a : length (allWords (restOf c sys fi n s k at)) ≡ length (packet ++ allWords qs) =
         ap (λ (r : List Packet). length (allWords r)) (step .front) in
-        let b = length-append (words (packetIn eight sys fi (drop at s))) (allWords qs) in
-        let c = packet-long in
+        let b = length-append packet (allWords qs) in
         omega arith
 
-    module _ (sr cr : ℕ) (es : sr ≡ samples) (ec : cr ≡ count) where
-      abbrev bytes : List ℕ
-      bytes = take (at + 14 + sr - (at + 14)) (drop (at + 14) s)
-
-      abbrev lent : List ℕ
-      lent = take (o + sr + 4 - o) (drop o out)
-
-      same-bytes : bytes ≡ take samples (drop (at + 14) s)
-      same-bytes = let n : at + 14 + sr - (at + 14) ≡ samples = omega arith in ap (λ (m : ℕ). take m (drop (at + 14) s)) n
-
-      bytes-long : length bytes ≡ samples
-      bytes-long =
-          let a = step .inside in
-          let b = step .enough in
-          ap length same-bytes ∙ length-take-le samples (drop (at + 14) s) (let x = length-drop (at + 14) s in omega arith)
-
-      lent-long : length lent ≡ samples + 4
-      lent-long =
+    module _ (next : ℕ) (en : next ≡ o + long) where
+      -- what is lent for them
+      pub wording-lent : length (take (next - o) (drop o out)) ≡ long
+      wording-lent =
           let r = wording-room in
-          length-take-le (o + sr + 4 - o) (drop o out) (let x = length-drop o out in omega arith) ∙ (omega arith)
+          length-take-le (next - o) (drop o out) (let x = length-drop o out in omega arith) ∙ (omega arith)
 
-      -- what comes back
-      module _ (ys : List ℕ) (q : ys ≡ wordsAfter bytes lent) where
-        abbrev after : List ℕ
-        after = take o out ++ (ys ++ drop (o + sr + 4 - o) (drop o out))
-
+      -- what comes back; the next structure starts behind this one's array
+      module _ (ys : List ℕ) (q : ys ≡ packet) (from : ℕ) (ef : from ≡ at + 14 + count) where
         abbrev later : List Packet
-        later = restOf eight sys fi n s (k + 1) (at + 14 + cr)
+        later = restOf c sys fi n s (k + 1) from
 
-        ys-are : ys ≡ words (packetIn eight sys fi (drop at s))
-        ys-are =
-            q
-            ∙ words-after bytes lent (lent-long ∙ ap (λ (m : ℕ). m + 4) (sym bytes-long))
-            ∙ ap (λ (b : List ℕ). framed (map word b)) same-bytes
-            ∙ sym packet-is
-
-        ys-long : length ys ≡ o + sr + 4 - o
-        ys-long = ap length ys-are ∙ packet-long ∙ (omega arith)
-
-        pub wording-long : length after ≡ length out
-        wording-long = let r = wording-room in part-long out ys o (o + sr + 4) (omega arith) (omega arith) ys-long
-
-        pub wording-more : Wording sys fi n s after (k + 1) (at + 14 + cr) (o + sr + 4)
+        pub wording-more : Wording c sys fi n s (take o out ++ (ys ++ drop (next - o) (drop o out))) (k + 1) from next
         wording-more =
             let r = wording-room in
             let w = was .room in
-            let l = ys-long in
-            let next : at + 14 + count ≡ at + 14 + cr = omega arith in
-            let rest : allWords (restOf eight sys fi n s k at) ≡ ys ++ allWords later =
-            ap allWords (step .front) ∙ ap₂ (λ (v : List ℕ) (i : ℕ). v ++ allWords (restOf eight sys fi n s (k + 1) i)) (sym ys-are) next in
-            let both : length (allWords (restOf eight sys fi n s k at)) ≡ length (ys ++ allWords later) = ap length rest in
+            let l : length ys ≡ next - o = ap length q ∙ is ∙ (omega arith) in
+            let rest : allWords (restOf c sys fi n s k at) ≡ ys ++ allWords later =
+            ap allWords (step .front) ∙ ap₂ (λ (v : List ℕ) (i : ℕ). v ++ allWords (restOf c sys fi n s (k + 1) i)) (sym q) (sym ef) in
+            let both : length (allWords (restOf c sys fi n s k at)) ≡ length (ys ++ allWords later) = ap length rest in
             let sum = length-append ys (allWords later) in
             record {
-              left = subst (Left eight sys fi n s (k + 1)) next (step .later);
-              room = sym (wording-long ∙ (omega arith));
+              left = subst (Left c sys fi n s (k + 1)) (sym ef) (step .later);
+              room = sym (part-long out ys o next (omega arith) (omega arith) l ∙ (omega arith));
               written =
-                  part-more out ys o (o + sr + 4) (omega arith) (omega arith) l (allWords later)
+                  part-more out ys o next (omega arith) (omega arith) l (allWords later)
                   ∙ ap (λ (v : List ℕ). take o out ++ v) (sym rest)
                   ∙ was .written;
             }
+
+-- ---- the words of packets of 8-bit samples
+
+-- "samples run from DID to the last user word"
+packet-framed : (sys : ℕ) (fi : Bool) (t : List ℕ) (n : ℕ) → getD t 16 0 + 3 ≡ n → 14 + n ≤ length t
+    → words (packetIn eight sys fi t) ≡ framed (map word (take n (drop 14 t)))
+unfolding words coded checkOf framed
+packet-framed sys fi t n e h =
+    let d : ℕ = getD t 16 0 in
+    let l : length (take d (drop 17 t)) ≡ d = length-take-le d (drop 17 t) (let x = length-drop 17 t in omega arith) in
+    let a : drop 14 t ≡ getD t 14 0 ∷ getD t 15 0 ∷ d ∷ drop 17 t =
+    drop-cons t 14 0 (omega arith)
+    ∙ ap (λ (r : List ℕ). getD t 14 0 ∷ r) (drop-cons t 15 0 (omega arith))
+    ∙ ap (λ (r : List ℕ). getD t 14 0 ∷ getD t 15 0 ∷ r) (drop-cons t 16 0 (omega arith)) in
+    let b : take n (drop 14 t) ≡ body (packetIn eight sys fi t) =
+    ap₂ take (sym e ∙ add-three d) a ∙ ap (λ (m : ℕ). getD t 14 0 ∷ getD t 15 0 ∷ m ∷ take d (drop 17 t)) (sym l) in
+    ap (λ (r : List ℕ). 0x000 ∷ 0x3FF ∷ 0x3FF ∷ (map word r ++ check (map word r) ∷ [])) (sym b)
+
+-- a turn
+module _ (sys : ℕ) (fi : Bool) (n : ℕ) (s out : List ℕ) (k at o : ℕ) (was : Wording eight sys fi n s out k at o) (h : k < n) where
+  abbrev samples : ℕ
+  samples = twoIn s (at + 4)
+
+  turned : Turn eight sys fi n s k at
+  turned = turn eight sys fi n s k at (was .left) h
+
+  packet-long : length (words (packetIn eight sys fi (drop at s))) ≡ samples + 4
+  packet-long =
+      let a = turned .inside in
+      let b = turned .enough in
+      let d = turned .dc in
+      let u : length (packetIn eight sys fi (drop at s) .user) ≡ getD (drop at s) 16 0 =
+      length-take-le (getD (drop at s) 16 0) (drop 17 (drop at s))
+      (let x = length-drop at s in let y = length-drop 17 (drop at s) in omega arith) in
+      packet-words (packetIn eight sys fi (drop at s)) ∙ (omega arith)
+
+  pub eight-room : o + (samples + 4) ≤ length out
+  eight-room = wording-room eight sys fi n s out k at o was h (samples + 4) packet-long
+
+  module _ (sr cr : ℕ) (es : sr ≡ samples) (ec : cr ≡ fourIn s (at + 6)) where
+    abbrev bytes : List ℕ
+    bytes = take (at + 14 + sr - (at + 14)) (drop (at + 14) s)
+
+    abbrev lent : List ℕ
+    lent = take (o + sr + 4 - o) (drop o out)
+
+    next-is : o + sr + 4 ≡ o + (samples + 4)
+    next-is = omega arith
+
+    same-bytes : bytes ≡ take samples (drop (at + 14) s)
+    same-bytes = let n : at + 14 + sr - (at + 14) ≡ samples = omega arith in ap (λ (m : ℕ). take m (drop (at + 14) s)) n
+
+    bytes-long : length bytes ≡ samples
+    bytes-long =
+        let a = turned .inside in
+        let b = turned .enough in
+        ap length same-bytes ∙ length-take-le samples (drop (at + 14) s) (let x = length-drop (at + 14) s in omega arith)
+
+    packet-is : wordsAfter bytes lent ≡ words (packetIn eight sys fi (drop at s))
+    packet-is =
+        let a = turned .inside in
+        let b = turned .enough in
+        let l = wording-lent eight sys fi n s out k at o was h (samples + 4) packet-long (o + sr + 4) next-is in
+        words-after bytes lent (l ∙ ap (λ (m : ℕ). m + 4) (sym bytes-long))
+        ∙ ap (λ (b : List ℕ). framed (map word b)) same-bytes
+        ∙ ap (λ (r : List ℕ). framed (map word (take samples r))) (sym (drop-drop 14 at s))
+        ∙ sym (packet-framed sys fi (drop at s) samples (turned .dc) (let x = length-drop at s in omega arith))
+
+    -- the bytes' words come back
+    pub eight-more : (ys : List ℕ) → ys ≡ wordsAfter bytes lent
+        → Wording eight sys fi n s (take o out ++ (ys ++ drop (o + sr + 4 - o) (drop o out))) (k + 1) (at + 14 + cr) (o + sr + 4)
+    eight-more ys q =
+        wording-more eight sys fi n s out k at o was h (samples + 4) packet-long (o + sr + 4) next-is ys (q ∙ packet-is) (at + 14 + cr)
+        (ap (λ (m : ℕ). at + 14 + m) ec)
 
 -- ---- the sections
 
@@ -546,18 +559,17 @@ module _ (c : Coding) (sys : ℕ) (fi : Bool) (e sheet : List ℕ) (j : ElementR
 
 -- ---- the first test, and the answer as the definitions have it
 
-module _ (sys : ℕ) (fi : Bool) (e sheet : List ℕ) (r : ElementRead) (after : List ℕ) where
-  -- the contract, over an element of bytes
-  pub answered : Bytes e → Answers sys sheet (reading sys fi e (length sheet)) r after → Reads sys fi e sheet r after
-  unfolding read sheetAfter
-  answered b a = reads sys fi e sheet r after b (a .answer) (a .buffer)
-
+module _ (sys : ℕ) (o : Outcome) (sheet : List ℕ) (r : ElementRead) (after : List ℕ) where
   -- 3
-  pub unknown-system : known sys ≡ false → r ≡ readOf 0 (refused 3 0) → after ≡ sheet → Answers sys sheet (reading sys fi e (length sheet)) r after
-  unfolding reading
+  pub unknown-system : known sys ≡ false → r ≡ readOf 0 (refused 3 0) → after ≡ sheet → Answers sys sheet (readingOf sys o (length sheet)) r after
   unknown-system k q b = rw k (record { answer = q; buffer = b })
 
-  pub known-system : known sys ≡ true → Answers sys sheet (andThen (judged sys fi e) (packetTests sys (length sheet))) r after
-      → Answers sys sheet (reading sys fi e (length sheet)) r after
-  unfolding reading
+  pub known-system : known sys ≡ true → Answers sys sheet (andThen o (packetTests sys (length sheet))) r after
+      → Answers sys sheet (readingOf sys o (length sheet)) r after
   known-system k a = rw k a
+
+-- the contract, over an element of bytes
+pub answered : (sys : ℕ) (fi : Bool) (e sheet : List ℕ) (r : ElementRead) (after : List ℕ) → Bytes e
+    → Answers sys sheet (readingOf sys (judged sys fi e) (length sheet)) r after → Reads sys fi e sheet r after
+unfolding reading read sheetAfter
+answered sys fi e sheet r after b a = reads sys fi e sheet r after b (a .answer) (a .buffer)

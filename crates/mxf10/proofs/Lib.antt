@@ -7,6 +7,7 @@
 --   Accepting     the contract of reading
 --   Ours          the way back of what we write
 --   WritingLaws   each way through the code of `writing` that is its own, and the contract of writing
+--   ReadingLaws   each way through the code of `reading`
 pub mod Figures
 pub mod TensLaws
 pub mod Samples
@@ -14,3 +15,4 @@ pub mod Elements
 pub mod Accepting
 pub mod Ours
 pub mod WritingLaws
+pub mod ReadingLaws

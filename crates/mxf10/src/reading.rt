@@ -5,19 +5,31 @@ use crate::judging::refusal;
 use mxf::ElementRead;
 use mxf::four;
 use mxf::two;
-ghost use Prim.Native.Nat.{_≤_};
+ghost use Prim.Native.Nat.{_-_, _≤_};
 ghost use mathlib.Core.Path.{_≡_};
-ghost use lib.ListN.{length};
+ghost use mathlib.Core.List.{_∷_};
+ghost use lib.ListN.{length, take};
 ghost use Rattle.rules.specs.Numbers.{andThen};
 ghost use Rattle.rules.specs.Sheet.{allWords, sheetOf};
 ghost use Rattle.mxf.specs.Element.{ten};
+ghost use Rattle.mxf.specs.Judging.{arrayFor, samplesIn};
 ghost use Rattle.mxf.specs.Reading.{lastTests, readOf};
 ghost use Rattle.mxf.specs.Parts.{packetsOfStructures, Shown, Sized, Answers};
 ghost use Rattle.mxf10.specs.Reading.{judged};
 ghost use Rattle.mxf10.specs.Demands.{ReadsTen};
 
-// "W words: packets back to back". "This allows faithful bit-accurate reproduction of the source sample words" (004, 7.2): DID to CS as they
-// stand there, behind the flag.
+// "This allows faithful bit-accurate reproduction of the source sample words" (004, 7.2): DID to CS as they stand in the array, behind the flag.
+fn write_packet(s: &[u8], out: &mut [u16])
+    requires { ⌜ (3 ≤ length (now out)) × (arrayFor ten (length (now out) - 3) ≤ length (now s)) ⌝ }
+    ensures { λ _. ⌜ now (out .exit) ≡ 0x000 ∷ 0x3FF ∷ 0x3FF ∷ take (length (now (out .entry)) - 3) (samplesIn (now (s .entry))) ⌝ }
+{
+    out[0] = 0x000;
+    out[1] = 0x3FF;
+    out[2] = 0x3FF;
+    crate::tens::unpack(s, &mut out[3..]);
+}
+
+// "W words: packets back to back".
 fn write_packets(n: usize, s: &[u8], out: &mut [u16])
     requires { ⌜ Shown ten n (now s) (now out) ⌝ }
     ensures { λ _. ⌜ ((t : Shown ten n (now (s .entry)) (now (out .entry)))
@@ -31,10 +43,7 @@ fn write_packets(n: usize, s: &[u8], out: &mut [u16])
         let from = at + mxf::FIELDS;
         let end = from + four(s, at + 6);
         let next = o + samples + 3;
-        out[o] = 0x000;
-        out[o + 1] = 0x3FF;
-        out[o + 2] = 0x3FF;
-        crate::tens::unpack(&s[from..end], &mut out[o + 3..next]);
+        write_packet(&s[from..end], &mut out[o..next]);
         o = next;
         at = end;
         k += 1;

@@ -320,10 +320,17 @@ module _ (y : System) (p : Packet) (r : List ℕ) (g : Found y p) where
   unfolding foundRow words
   found-goes = refl
 
+-- words behind the flag, all of them there, are those of the packet that they are taken for
+pub found-whole : (s : List ℕ) → flagged s ≡ true → dcIn s + 7 ≤ length s → s ≡ words (foundOfWords s) ++ drop (dcIn s + 7) s
+unfolding coded checkOf
+found-whole s f long =
+    let t : List ℕ = take (dcIn s + 3) (drop 3 s) in
+    words-made (foundOfWords s) (dcIn s) s f long (ap (raised (map high t)) (body-shown s long) ∙ raised-back t) refl
+
 -- a front without a fault is the words of a packet as found, whatever the system, since it is on no line
 pub found-uncut : (y : System) (s : List ℕ) → Unit {0} → foundRow .fault s ≡ 0
     → (x : Packet) × (bare x ≡ foundRow .packet s) × (s ≡ words x ++ foundRow .rest s) × Found y x
-unfolding foundRow foundFault coded checkOf
+unfolding foundRow foundFault
 found-uncut y s h q =
     let t : List ℕ = take (dcIn s + 3) (drop 3 s) in
     let x : Packet = foundOfWords s in
@@ -333,11 +340,10 @@ found-uncut y s h q =
     let long : dcIn s + 7 ≤ length s = ltb-false (length s) (dcIn s + 7) (w .3) in
     let ten : areTen t ≡ true = ten-parts (dcIn s) s ∙ rw (w .2, w .4) in
     let low-bytes : body x ≡ map low t = body-shown s long in
-    let is : raised (map high t) (body x) ≡ t = ap (raised (map high t)) low-bytes ∙ raised-back t in
     let l = leb-true (getD s (dcIn s + 6) 0) 0x3FF (w .5) in (
       x,
       refl,
-      words-made x (dcIn s) s (w .1) long is refl,
+      found-whole s (w .1) long,
       record {
         within = shown-sound s long y;
         above = map high t;

@@ -50,7 +50,8 @@ returns c =
     let a = b .before .before .before .args in
     let k = is-unknown (a .system) (b .figures-of .result) (b .figures-of .ensures) (c .before .if1 .taken) in
     answered (a .system) (a .fi) (a .element .now) (a .sheet .now) (c .refusal .result) (a .sheet .now) (bytes b)
-    (unknown-system (a .system) (a .fi) (a .element .now) (a .sheet .now) (c .refusal .result) (a .sheet .now) k (c .refusal .ensures) refl)
+    (unknown-system (a .system) (judged (a .system) (a .fi) (a .element .now)) (a .sheet .now) (c .refusal .result) (a .sheet .now) k
+    (c .refusal .ensures) refl)
 
 judge-requires : tie.Need-judge-requires
 judge-requires c κs = search needs
@@ -61,7 +62,7 @@ returns-2 c =
     let d = c .before .before in
     let a = d .before .before .before .before .before .before .args in
     answered (a .system) (a .fi) (a .element .now) (a .sheet .now) (d .judge .result) (a .sheet .now) (bytes (d .before .before .before))
-    (known-system (a .system) (a .fi) (a .element .now) (a .sheet .now) (d .judge .result) (a .sheet .now) (is-one (d .before))
+    (known-system (a .system) (judged (a .system) (a .fi) (a .element .now)) (a .sheet .now) (d .judge .result) (a .sheet .now) (is-one (d .before))
     (refused-before eight (a .system) (a .fi) (a .element .now) (a .sheet .now) (d .judge .result) (judged-is d) (c .if2 .taken)))
 
 -- past 19 the head is there
@@ -110,7 +111,8 @@ returns-3 c =
     let a = f .before .before .before .args in
     let is = sym (last-is (a .system) (f .figures-of .result) (f .figures-of .ensures)) in
     answered (a .system) (a .fi) (a .element .now) (a .sheet .now) (c .refusal2 .result) (a .sheet .now) (bytes f)
-    (known-system (a .system) (a .fi) (a .element .now) (a .sheet .now) (c .refusal2 .result) (a .sheet .now) (is-one (d .before))
+    (known-system (a .system) (judged (a .system) (a .fi) (a .element .now)) (a .sheet .now) (c .refusal2 .result) (a .sheet .now)
+    (is-one (d .before))
     (not-allowed eight (a .system) (a .fi) (a .element .now) (a .sheet .now) (d .judge .result) (judged-is d) (z .if2 .left) (w .allowed .result)
     (w .allowed .ensures (found z) (system (a .system)) is) (c .before .if3 .taken) (c .refusal2 .result) (c .refusal2 .ensures)))
 
@@ -136,7 +138,7 @@ returns-4 c =
     let is = sym (last-is (a .system) (f .figures-of .result) (f .figures-of .ensures)) in
     let after = v .written .last .1 .1 .1 .1 .0 in
     answered (a .system) (a .fi) (a .element .now) (a .sheet .now) (v .written .result) after (bytes f)
-    (known-system (a .system) (a .fi) (a .element .now) (a .sheet .now) (v .written .result) after (is-one (d .before))
+    (known-system (a .system) (judged (a .system) (a .fi) (a .element .now)) (a .sheet .now) (v .written .result) after (is-one (d .before))
     (all-allowed eight (a .system) (a .fi) (a .element .now) (a .sheet .now) (d .judge .result) (judged-is d) (z .if2 .left) (w .allowed .result)
     (w .allowed .ensures (found z) (system (a .system)) is) (v .before .before .if3 .left) (v .written .result) after (v .written .ensures)))
 

@@ -130,7 +130,9 @@ words-of d =
       sys = a .system;
       fi = a .fi;
       judged = b .pre .judged;
-      room = words-lent eight (a .system) (a .fi) (a .packets) (a .s .now) (a .out .now) (b .pre) (pairs .last .1 .1 .1 .1 .1 .0) (pairs .ensures (coded b));
+      room =
+          words-lent eight (a .system) (a .fi) (a .packets) (a .s .now) (a .out .now) (b .pre) (pairs .last .1 .1 .1 .1 .1 .0)
+          (pairs .ensures (coded b));
     }
 
 write-packets-requires : tie.Need-write-packets-requires
@@ -153,8 +155,8 @@ returns c =
     let b = d .before .before .before .before in
     let a = b .args in
     let pairs = d .write-locations in
-    sections-written eight (a .system) (a .fi) (a .packets) (a .s .now) (a .out .now) (b .pre) (pairs .last .1 .1 .1 .1 .1 .0) (pairs .ensures (coded b))
-    (w .write-packets .last .1 .1 .0) (w .write-packets .ensures (words-of d))
+    sections-written eight (a .system) (a .fi) (a .packets) (a .s .now) (a .out .now) (b .pre) (pairs .last .1 .1 .1 .1 .1 .0)
+    (pairs .ensures (coded b)) (w .write-packets .last .1 .1 .0) (w .write-packets .ensures (words-of d))
 
 pub write-sections-spec : {M : Type 1} → statement M
 write-sections-spec =
