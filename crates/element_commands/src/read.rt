@@ -1,5 +1,7 @@
 // vanc mxf-read SYSTEM FI ELEMENT SHEET [--ten]: reads the packets of the ANC element (ST 436-1) that is in a file to a sheet file. The sheet file
 // is made or replaced whole, and only when the element is read.
+ghost use Prim.Native.Nat.{_*_, _≤_};
+ghost use lib.ListN.{length};
 use console::arguments;
 use console::arguments::NOT_A_NUMBER;
 use console::ending;
@@ -36,9 +38,12 @@ fn read_element(
     system: u64,
     fi: bool,
     bytes: &[u8],
-    s: &mut [u16; NUMBERS],
-    file: &mut [u8; sheet_file::LONGEST],
-) -> ElementRead {
+    s: &mut [u16],
+    file: &mut [u8],
+) -> ElementRead
+    requires { ⌜ 2 * length (now s) ≤ length (now file) ⌝ }
+    ensures { λ r. ⌜ r .numbers ≤ length (now (s .exit)) ⌝ }
+{
     if ten {
         return file_codec::read_element10(system, fi, bytes, s, file);
     }

@@ -21,7 +21,7 @@ fn write_element(
     file: &[u8],
     fi: bool,
     s: &mut [u16; NUMBERS],
-    bytes: &mut [u8; LONGEST],
+    bytes: &mut [u8],
 ) -> ElementWritten {
     if ten {
         return file_codec::write_element10(file, fi, s, bytes);
