@@ -326,4 +326,5 @@ def main(words):
     sys.exit(0 if tries.refused == total else 1)
 
 
-main(sys.argv[1:])
+if __name__ == "__main__":
+    main(sys.argv[1:])
