@@ -141,7 +141,10 @@ frame_rs=$both$'\n'$last
 element_c='written packets 1 bytes 39
 written packets 1 bytes 41
 read packets 1 numbers 15
-refused 19 at 15: the element is not of the form of SMPTE ST 436-1 from here on'
+refused 19 at 15: the element is not of the form of SMPTE ST 436-1 from here on
+refused 10 at 0 8: its checksum word is wrong
+written packets 1 bytes 44
+kept as it was: its checksum word is wrong, word 8'
 
 cc_for -std=c99 "${strict[@]}" -O2 -I include examples/frame.c "$archive" -o "$work/frame_c"
 says examples/frame.c "$frame_c" "$work/frame_c"
