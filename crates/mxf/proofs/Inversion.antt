@@ -8,21 +8,23 @@
 --   Head               the facts of key, length and N
 --   judged-listed      the whole element
 --   judged-number      a refusal is 19
+--   other-coding       what one coding reads is 19 for the other
 -- Assumes nothing.
 use Prim.Native.Nat.{ℕ, zero, suc, _+_, _≤_}
 use mathlib.Core.Path.{_≡_, refl, sym, ap, ap₂, _∙_}
-use mathlib.Core.Bool.{Bool, true, false, cond, _&&_}
+use mathlib.Core.Logic.{_⊎_, inl, inr}
+use mathlib.Core.Bool.{Bool, true, false, cond, _&&_, _||_}
 use mathlib.Core.List.{List, [], _∷_}
 use native.Mathlib.Omega.{arith}
 use lib.Dec.{eqb, ltb, leb}
 use lib.ListN.{length, getD, take, drop}
 use lib.Seq.{drop-cons}
-use borrow.Author.Tests.{ltb-false, leb-true, eqb-true, eqb-false, not-true}
+use borrow.Author.Tests.{ltb-false, le-ltb, leb-true, eqb-true, eqb-false, ne-eqb, not-true}
 use Rattle.rules.specs.Systems.{system}
 use Rattle.rules.specs.Packet.{Packet}
 use Rattle.rules.specs.Numbers.{Outcome, listed, refused, also}
-use Rattle.rules.proofs.Basics.{never, both}
-use Rattle.mxf.specs.Element.{key, wrapping, Coding}
+use Rattle.rules.proofs.Basics.{never, both, either}
+use Rattle.mxf.specs.Element.{key, wrapping, Coding, eight, ten}
 use Rattle.mxf.specs.Judging.{twoIn, threeIn, fourIn, field, inFrame, isCoding, others, isCount, arrayFor, sizeIn, dcIn, dcBytes}
 use Rattle.mxf.specs.Judging.{frontThen, arrayThen, packetIn, structures, keyThen, headThen, judgedAs}
 
@@ -241,3 +243,73 @@ judged-number c sys fi e =
     (field-number 0 e 17 3 (eqb (20 + threeIn e 17) (length e)) _
     (field-number 0 e 20 2 true _ (structures-number c sys fi (twoIn e 20) 22 (drop 22 e)))))
     .is
+
+-- ---- one coding is not the other
+
+-- a field that has passed is right, whatever follows it
+field-passes : (at : ℕ) (s : List ℕ) (i size : ℕ) (right : Bool) (o : Outcome) (ps : List Packet) → field at s i size right o ≡ listed ps
+    → (q : Outcome) → field at s i size right q ≡ q
+field-passes at s i size right o ps e q =
+    let r = field-listed at s i size right o ps e in
+    rw (le-ltb (length s) (i + size) (r .there), r .holds)
+
+key-passes : (i : ℕ) (ks e : List ℕ) (o : Outcome) (ps : List Packet) → keyThen i ks e o ≡ listed ps → (q : Outcome) → keyThen i ks e q ≡ q
+key-passes i [] e o ps h q = refl
+key-passes i (k ∷ ks) e o ps h q =
+    let right : Bool = eqb (getD e i 0) k in
+    field-passes 0 e i 1 right (keyThen (suc i) ks e o) ps h (keyThen (suc i) ks e q)
+    ∙ key-passes (suc i) ks e o ps (field-listed 0 e i 1 right (keyThen (suc i) ks e o) ps h .later) q
+
+head-passes : (e : List ℕ) (o : Outcome) (ps : List Packet) → headThen e o ≡ listed ps → (q : Outcome) → headThen e q ≡ q
+unfolding headThen
+head-passes e o ps h q =
+    let form : Bool = eqb (getD e 16 0) 0x83 in
+    let measure : Bool = eqb (20 + threeIn e 17) (length e) in
+    let a = key-listed 0 key e _ ps h in
+    let b = field-listed 0 e 16 1 form _ ps (a .later) in
+    let c = field-listed 0 e 17 3 measure _ ps (b .later) in
+    let count : Outcome = field 0 e 20 2 true q in
+    key-passes 0 key e _ ps h (field 0 e 16 1 form (field 0 e 17 3 measure count))
+    ∙ field-passes 0 e 16 1 form _ ps (a .later) (field 0 e 17 3 measure count)
+    ∙ field-passes 0 e 17 3 measure _ ps (b .later) count
+    ∙ field-passes 0 e 20 2 true _ ps (c .later) q
+
+abbrev pub other : Coding → Coding
+other eight = ten
+other ten = eight
+
+codings-differ : (c : Coding) (n : ℕ) → isCoding c n ≡ true → isCoding (other c) n ≡ false
+codings-differ eight n e = go (either (eqb n 4) (eqb n 5) e)
+  where
+    go : (eqb n 4 ≡ true) ⊎ (eqb n 5 ≡ true) → (eqb n 7 || eqb n 8) ≡ false
+    go (inl h) = let z = eqb-true n 4 h in rw (ne-eqb n 7 (λ w. omega arith), ne-eqb n 8 (λ w. omega arith))
+    go (inr h) = let z = eqb-true n 5 h in rw (ne-eqb n 7 (λ w. omega arith), ne-eqb n 8 (λ w. omega arith))
+codings-differ ten n e = go (either (eqb n 7) (eqb n 8) e)
+  where
+    go : (eqb n 7 ≡ true) ⊎ (eqb n 8 ≡ true) → (eqb n 4 || eqb n 5) ≡ false
+    go (inl h) = let z = eqb-true n 7 h in rw (ne-eqb n 4 (λ w. omega arith), ne-eqb n 5 (λ w. omega arith))
+    go (inr h) = let z = eqb-true n 8 h in rw (ne-eqb n 4 (λ w. omega arith), ne-eqb n 5 (λ w. omega arith))
+
+front-differs : (c : Coding) (sys at : ℕ) (s : List ℕ) (o : Outcome) (ps : List Packet) → frontThen c sys at s o ≡ listed ps
+    → (q : Outcome) → frontThen (other c) sys at s q ≡ refused 19 (at + 3)
+unfolding frontThen
+front-differs c sys at s o ps e q =
+    let line : Bool = inFrame (system sys) (twoIn s 0) in
+    let wraps : Bool = eqb (getD s 2 0) (wrapping sys) in
+    let a = field-listed at s 0 2 line _ ps e in
+    let b = field-listed at s 2 1 wraps _ ps (a .later) in
+    let k = field-listed at s 3 1 (isCoding c (getD s 3 0)) o ps (b .later) in
+    let coded : Outcome = field at s 3 1 (isCoding (other c) (getD s 3 0)) q in
+    let refuses : coded ≡ refused 19 (at + 3) = rw (le-ltb (length s) 4 (k .there), codings-differ c (getD s 3 0) (k .holds)) in
+    field-passes at s 0 2 line _ ps e (field at s 2 1 wraps coded) ∙ field-passes at s 2 1 wraps _ ps (a .later) coded ∙ refuses
+
+-- an element with a packet is refused by the other coding, at its first coding byte
+pub other-coding : (c : Coding) (sys : ℕ) (fi : Bool) (e : List ℕ) (p : Packet) (ps : List Packet) → judgedAs c sys fi e ≡ listed (p ∷ ps)
+    → judgedAs (other c) sys fi e ≡ refused 19 25
+unfolding judgedAs
+other-coding c sys fi e p ps h =
+    head-passes e _ (p ∷ ps) h _ ∙ go (twoIn e 20) (judged-listed c sys fi e (p ∷ ps) h .later)
+  where
+    go : (n : ℕ) → structures c sys fi n 22 (drop 22 e) ≡ listed (p ∷ ps) → structures (other c) sys fi n 22 (drop 22 e) ≡ refused 19 25
+    go zero z = never (let w = structures-none c sys fi 22 (drop 22 e) (p ∷ ps) z .1 in cc)
+    go (suc n) z = front-differs c sys 22 (drop 22 e) _ (p ∷ ps) z _
