@@ -10,7 +10,7 @@ use native.Mathlib.Omega.{arith}
 use lib.ListN.{length, getD, take, drop, length-append, take-append-drop, drop-of-length-le}
 use lib.Seq.{getD-drop, take-at}
 use borrow.Author.Tests.{le-ltb, le-leb}
-use Rattle.rules.specs.Base.{All, Bytes, joined}
+use Rattle.rules.specs.Base.{All, Bytes}
 use Rattle.rules.specs.Systems.{system, allowed}
 use Rattle.rules.specs.Packet.{Packet, coded, checkOf, words, Found}
 use Rattle.rules.specs.Numbers.{Outcome, listed}
@@ -212,10 +212,6 @@ module _ (sys : ℕ) (fi : Bool) (s : List ℕ) (hs : Bytes s) (g : Structure te
       ∙ ap₂ (λ (i j : ℕ). laid ten sys (q .line) (q .flags) i j (x .array) ++ drop (sizeIn s) s) (sym samples-in) (sym (array-long ten sys fi s hs g))
 
 -- ---- an element, both ways
-
-pub value-length : (sys : ℕ) (xs : List Arrayed) → length (value sys xs) ≡ 2 + length (joined (structure sys) xs)
-unfolding value
-value-length sys xs = omega arith
 
 module _ (sys : ℕ) (fi : Bool) where
   abbrev view : Arrayed → Packet

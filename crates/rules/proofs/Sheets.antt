@@ -24,7 +24,7 @@ use Rattle.rules.specs.Laying.{packetsOfWords, shaped, unlessAt, locatio
 use Rattle.rules.specs.Laying.{listTestsBy, listTests, sheetTests}
 use Rattle.rules.specs.Demands.{SheetOf}
 use Rattle.rules.proofs.Basics.{never, both, append-below, all-give}
-use Rattle.rules.proofs.Lines.{allowed-stands, allowed-last, OnAllowed, sound-lines}
+use Rattle.rules.proofs.Lines.{allowed-stands, allowed-last, OnAllowed}
 use Rattle.rules.proofs.Words.{bare, bares, WordsBy, words-read, words-laid, words-room, words-refused}
 
 -- the number of an outcome, 0 for a list
@@ -97,10 +97,6 @@ pub lines-allowed : (y : System) (i : ℕ) (ps : List Packet) (o : Outcome) → 
     → unlessAt 20 (locationAllowed y) i (locations ps) o ≡ o
 lines-allowed y i [] o g = refl
 lines-allowed y i (p ∷ ps) o (one g gs) = rw g (lines-allowed y (suc i) ps o gs)
-
-pub locations-allowed : (y : System) (i : ℕ) (ps : List Packet) (o : Outcome) → All (Sound y) ps
-    → unlessAt 20 (locationAllowed y) i (locations ps) o ≡ o
-locations-allowed y i ps o g = lines-allowed y i ps o (sound-lines y ps g)
 
 -- ---- the sections of a list's sheet
 
