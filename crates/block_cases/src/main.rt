@@ -1,5 +1,7 @@
 // Where the blocks of an area start, in laying order: 001, table 4, for the three systems. A line has the sequence, the block's name there
 // (VA block, channel) and its start; tests/block_cases.py writes what is to be printed.
+#![tactic(auto)]
+
 use frame::{Channel, Hd720x60p, Hd1080x50i, Hd1080x60i, Sequence, Sequences};
 
 fn number(n: usize) {

@@ -1,5 +1,7 @@
 // The calls under their C names, for programs in C or Rust: include/vanc.h says what each takes and gives back. A slice is two arguments there, its
 // start and its length. A room of its own, which the archive is made of: it is proved in seconds, and one archive has all calls.
+#![tactic(auto)]
+
 ghost use Rattle.std.specs.Prelude.{◌≡◌};
 ghost use Rattle.rules.specs.Demands.{Judges, Lays, Reads};
 ghost use Rattle.mxf.specs.Demands.{Writes as WritesElement, Reads as ReadsElement};

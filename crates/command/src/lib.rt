@@ -1,5 +1,7 @@
 // The command `vanc`: its first argument names what it does. It ends with status 0, done; 1, refused by the rules; 2, called wrongly, or a file or a
 // stream that could not be read or written. main.c starts it.
+#![tactic(auto)]
+
 use console::ending::FAILED;
 use console::{arguments, ending};
 use element_commands::{read as mxf_read, write as mxf_write};

@@ -1,5 +1,7 @@
 // The DANC packet and the string: header bytes, a packet's faults, the walker's step, the validation of a string.
 // Document 01, "The packet", "Numbers given back" (5, 14 to 16), "The walker"; 001, figure 6. Quotations are from document 01.
+#![tactic(auto)]
+
 ghost use Rattle.std.specs.Prelude.{◌≡◌, true, cond, ℕ, ◌+◌, ◌-◌, ◌*◌, ◌/◌, ◌%◌, ◌≤◌, ◌<◌, eqb, length, get_or, take, drop};
 ghost use Rattle.rules.specs.Base.{all_is, sum};
 ghost use Rattle.rules.specs.Systems.{System};

@@ -1,5 +1,7 @@
 // The codec on the bytes of files: what the command lays, reads and writes is, by these contracts, what the rules say of the sheet in the file.
 // And, in the module lines, the line of a packet that is refused for it.
+#![tactic(auto)]
+
 ghost use Rattle.std.specs.Prelude.{◌≡◌, ◌*◌, ◌≤◌, length, take};
 ghost use Rattle.rules.specs.Demands.{Lays, Reads};
 ghost use Rattle.rules.specs.Lister.{file_of};

@@ -2,6 +2,8 @@
 //
 // `ask_open` and `ask_path` lend C's struct by a reference, which the borrow checker does not cover: each is two statements and is proved by a walk
 // by hand. No contract can say what the system answers, so the public ones say only in what ranges the numbers are.
+#![tactic(auto)]
+
 ghost use Rattle.std.specs.Prelude.{◌<◌, ◌≡◌, eqb, pos};
 ghost use Rattle.io.specs.Counts.{IsPrefixLen};
 ghost use Rattle.libc.specs.Io.{Ended, Status};

@@ -1,5 +1,7 @@
 // What the command does with files and streams: an input read whole, an output found, and replaced whole. What goes wrong with a file is said on
 // standard error by the name that the operator wrote, and the caller does nothing more.
+#![tactic(auto)]
+
 ghost use Rattle.io.specs.Counts.{IsPrefixLen};
 
 use file_status::{Known, Link, REGULAR};

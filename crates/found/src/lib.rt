@@ -1,5 +1,7 @@
 // The tests of a sheet as found (document 02, A13): the lister's, "but .. 8 only for a word over 3FFh, CS too, and never 10". What each function
 // gives is a definition of the crate rules.
+#![tactic(auto)]
+
 ghost use Rattle.std.specs.Prelude.{◌+◌, ◌%◌, ◌≡◌, false, true, eqb, drop};
 ghost use Rattle.rules.specs.Systems.{System};
 ghost use Rattle.rules.specs.Sheet.{words_in};

@@ -1,5 +1,7 @@
 // The frame: the three systems with their figures, where the blocks of an area start, and user bytes out of an area and into it.
 // Moving the bytes is in blocks.rt, the lines on which a packet may stand in lines.rt.
+#![tactic(auto)]
+
 ghost use Rattle.std.specs.Prelude.{◌≡◌, ◌<◌};
 ghost use Rattle.rules.specs.Blocks.{block_start};
 ghost use Rattle.frame.specs.Systems.{figures_of};

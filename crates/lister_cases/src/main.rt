@@ -1,5 +1,7 @@
 // The lister's text on many files in one run: data/cases has them one after the other, each after its length in four bytes (made, with what is to be
 // printed, by tests/lister_cases.py).
+#![tactic(auto)]
+
 use frame::wide;
 
 // One byte more than the longest sheet, as in the lister.

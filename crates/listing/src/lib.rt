@@ -1,5 +1,7 @@
 // What the lister prints of a sheet file (document 01, "Worked figures"), made in a lent buffer so that it is written in one call.
 // The tests of the file are proved; that the text is right to the byte is tested.
+#![tactic(auto)]
+
 ghost use Rattle.std.specs.Prelude.{◌≡◌, ◌+◌, ◌≤◌, length};
 ghost use Rattle.io.specs.Counts.{IsPrefixLen};
 ghost use Rattle.rules.specs.Sheet.{system_in, words_in};

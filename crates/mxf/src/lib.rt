@@ -1,5 +1,7 @@
 // An MXF element for each frame (document 02, A1; 004, tables 5 to 7, section 7.2, annex B): `write` makes the ANC element of a sheet,
 // `read` the sheet of an element. What each gives is a definition of specs/.
+#![tactic(auto)]
+
 ghost use Rattle.std.specs.Prelude.{◌≡◌};
 ghost use Rattle.mxf.specs.Element.{wrapping as wrappingOf};
 

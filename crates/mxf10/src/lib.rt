@@ -1,6 +1,8 @@
 // Ten bits as found (document 02, A13; 004, 5.4.4 and 7.2): `write` makes the ANC element of a sheet as found, DID to CS of each packet in ten-bit
 // samples, `read` the sheet of such an element. What each gives is a definition of specs/; what these elements have in common with those of 8-bit
 // samples is the crate mxf's.
+#![tactic(auto)]
+
 ghost use Rattle.std.specs.Prelude.{◌≤◌, ◌≡◌};
 ghost use Rattle.mxf.specs.Element.{ten};
 ghost use Rattle.mxf.specs.Judging.{array_for};

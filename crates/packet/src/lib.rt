@@ -1,5 +1,7 @@
 // The ten-bit words of a packet (document 01, "The packet"; SMPTE 291): the word of a byte, CS, the tests 7 to 10, and the word that they name.
 // What each function gives is a definition of the crate rules.
+#![tactic(auto)]
+
 ghost use Rattle.std.specs.Prelude.{◌≡◌, ◌+◌, ◌-◌, ◌*◌, ◌/◌, ◌%◌, ◌≤◌, ◌<◌, false, not, ◌||◌, eqb, ltb, length, drop};
 ghost use Rattle.rules.specs.Packet.{word, check};
 ghost use Rattle.rules.specs.Numbers.{refused};

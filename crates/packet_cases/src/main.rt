@@ -2,6 +2,8 @@
 // hexadecimal (data/words291.txt): every DC from 0 to 255, every DID and SDID, and document 01's worked packets. Each is to be accepted, word
 // for word, as the type that its DID has; and with one bit of one word flipped, whichever it is, refused with the right number (7 in the flag, 10 in
 // CS, 8 between them) at that word (document 02, A2).
+#![tactic(auto)]
+
 ghost use Rattle.std.specs.Prelude.{◌≡◌, ◌+◌, ◌*◌, ◌<◌, ◌≤◌, length};
 
 use rules::Judged;

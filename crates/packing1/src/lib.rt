@@ -1,5 +1,7 @@
 // Packing 1, packs of 5 (001, 4.1.1, figures 4 and 7), laid over a run of user bytes from the sections B and C of a sheet that has passed its
 // tests. Where the user bytes lie in an area is no concern of theirs. Quotations are from document 01.
+#![tactic(auto)]
+
 ghost use Rattle.std.specs.Prelude.{◌+◌, ◌*◌, ◌/◌, ◌≤◌, ◌<◌, ◌≡◌, [], ◌∷◌, map, length, take, drop};
 ghost use Rattle.std.proofs.lemmas.List.Edits.{sets};
 ghost use Rattle.rules.specs.Laying.{low};

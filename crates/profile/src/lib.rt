@@ -1,5 +1,7 @@
 // Laying within the eight-bit profile (document 02, A14; 003, 6.5.1): for equipment that drops the two low bits of each word. One test more, 29,
 // stands behind laying's 11 and before its 12; what passes it is laid by `vanc::lay`.
+#![tactic(auto)]
+
 ghost use Rattle.std.specs.Prelude.{◌≡◌};
 ghost use Rattle.profile.specs.Profile.{eight_ids};
 ghost use Rattle.profile.specs.Demands.{LaysStrict};

@@ -1,5 +1,7 @@
 // The numbers of refusals in words: the one table of them (document 01, "Refusals"; document 02, A1, A3, A14). include/vanc.h has the
 // same words for C.
+#![tactic(auto)]
+
 ghost use Rattle.io.specs.Counts.{IsPrefixLen};
 
 use frame::LIMIT;

@@ -1,5 +1,6 @@
 // The rules of the build. What a reader must believe is in specs/, what follows from it in proofs/.
 // Here are only the shapes of what the calls give back ("Numbers given back"), so that code and rules speak of one type.
+#![tactic(auto)]
 
 // What the test of a packet gives back: the first word at fault (document 02, A2), or the packet's type, 1 or 2. On refusal kind is 0.
 #[repr(C)]

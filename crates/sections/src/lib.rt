@@ -1,6 +1,8 @@
 // The sections B and C of a sheet (document 01, "The sheet") as the calls that lay and write take them: where they stand, and the string that
 // they give (001, figure 6). The sheet has passed its tests before the string is laid, so no packet is tested again. Quotations are from
 // document 01.
+#![tactic(auto)]
+
 ghost use Rattle.std.specs.Prelude.{ℕ, ◌≤◌, ◌≡◌, List, map, length};
 ghost use Rattle.std.proofs.lemmas.List.Edits.{sets};
 ghost use Rattle.rules.specs.Sheet.{locations_in, words_in};

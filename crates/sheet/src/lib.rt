@@ -1,6 +1,8 @@
 // The sheet (document 01, "The sheet"): the tests 2, 3, 5 to 11 and 20 of its numbers, in the order in which refusals are given; and, in the
 // module write, writing one.
 // Other calls start with `test`; what each function gives is a definition of the crate rules.
+#![tactic(auto)]
+
 ghost use Rattle.std.specs.Prelude.{◌≡◌, true, ℕ, ◌*◌, ◌<◌, List, length};
 ghost use Rattle.rules.specs.Systems.{System};
 ghost use Rattle.rules.specs.Sheet.{words_in};

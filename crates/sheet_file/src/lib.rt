@@ -1,4 +1,6 @@
 // A sheet in a file: "16-bit numbers, high byte first" (document 01, "The sheet"). Quotations are from document 01.
+#![tactic(auto)]
+
 ghost use Rattle.std.specs.Prelude.{◌≡◌, ◌+◌, ◌*◌, ◌/◌, ◌%◌, ◌≤◌, length, take};
 ghost use Rattle.rules.specs.Lister.{numbers_of};
 ghost use Rattle.sheet_file.specs.Files.{is_whole, sheet_in, file_in};

@@ -1,5 +1,7 @@
 // Lines of text that the programs print, made in a lent buffer so that each is written in one call. Each function puts its text at a place
 // and answers the place behind it; what has no room is left out, and no answer lies past the buffer.
+#![tactic(auto)]
+
 ghost use Rattle.io.specs.Counts.{IsPrefixLen};
 
 pub fn put(out: &mut [u8], at: usize, b: u8) -> usize

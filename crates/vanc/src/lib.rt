@@ -1,4 +1,6 @@
 // The calls over a whole frame (document 01): `lay` lays a sheet's packets into an area, `read` reads an area to a sheet, `walk` walks a string.
+#![tactic(auto)]
+
 mod laying;
 mod reading;
 

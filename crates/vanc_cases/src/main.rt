@@ -1,6 +1,8 @@
 // Laying and reading on many cases in one run: data/cases has them (made, with what is to be printed, by tests/vanc_cases.py, which says how a
 // case is written). Each lays a sheet into an area of noise, damages the area, and reads it into a buffer of noise; what is printed has both
 // answers and a number mixed of every byte of the area, and of every number of the buffer, afterwards.
+#![tactic(auto)]
+
 ghost use Rattle.std.specs.Prelude.{◌+◌, ◌*◌, ◌≤◌, ◌<◌, length};
 
 use frame::wide;

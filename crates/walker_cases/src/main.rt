@@ -1,5 +1,7 @@
 // The walker on many strings in one run: data/cases has them (made, with what is to be printed, by tests/walker_cases.py, which says how a case is
 // written). Of each string every answer is printed to the end or a refusal, two further ones, and steps from places that are no packet's.
+#![tactic(auto)]
+
 ghost use Rattle.io.specs.Counts.{IsPrefixLen};
 
 use frame::{StringByte, wide};
