@@ -8,7 +8,7 @@ slice-aggregate-result : tie.Need-slice_bounds-result-end
 slice-aggregate-result c = search rules
 
 returns : tie.Need-returns-then-sheet-lt3
-returns c = b-none c.before.before.before.args.sheet.now c.before.if-sheet-lt3.true
+returns c = b-none c.before.before.args.sheet.now c.if-sheet-lt3.true
 
 shared-slice-read-wide : tie.Need-bounds-sheet-2
 shared-slice-read-wide c = search rules

@@ -9,7 +9,7 @@ slice-aggregate-result : tie.Need-slice_bounds-result-end
 slice-aggregate-result c = search rules
 
 returns : tie.Need-returns-then-sheet-lt4
-returns c = c-none c.before.before.before.args.sheet.now (omega arith)
+returns c = c-none c.before.before.args.sheet.now (omega arith)
 
 shared-slice-read-wide : tie.Need-bounds-sheet-2
 shared-slice-read-wide c = search rules
@@ -28,7 +28,7 @@ slice-aggregate-result-2 c = search rules
 
 returns-2 : tie.Need-returns-then-sheet-first
 returns-2 c =
-    let w = c.before.before in
+    let w = c.before in
     c-none w.before.before.before.before.args.sheet.now (let p = w.wide.ensures.0 in omega arith)
 
 mul-result : tie.Need-offset_bounds-sheet-first
