@@ -245,7 +245,7 @@ fn follow_link(rt: &HostRuntime, path: &mut [u8], n: usize) -> Link
     requires { IsPrefixLen n path.old }
     ensures { IsPrefixLen result.bytes path.new }
 {
-    let mut link = io::buffer();
+    let mut link = [0u8; PATH_MAX];
     let l = file_status::link_at(rt, &path[..n], &mut link);
     let k = l.bytes;
     if k == 0 {
