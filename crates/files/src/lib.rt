@@ -363,13 +363,7 @@ pub struct Job {
 }
 
 // Finds the output of a job, and then reads its input. Where one of them cannot be had, that is said.
-pub fn begin(
-    rt: &HostRuntime,
-    input: &[u8],
-    output: &[u8],
-    path: &mut [u8],
-    buf: &mut [u8],
-) -> Job
+pub fn begin(rt: &HostRuntime, input: &[u8], output: &[u8], path: &mut [u8], buf: &mut [u8]) -> Job
     ensures prefix_len { IsPrefixLen result.path path.new }
     ensures prefix_len_2 { IsPrefixLen result.bytes buf.new }
 {
@@ -556,13 +550,7 @@ fn replace_by(
 
 // Replaces the file at a path whole or not at all: the bytes are written to a file beside it, which then takes its name. Where that fails it is said,
 // and the file is as it was.
-pub fn replace_file(
-    rt: &HostRuntime,
-    name: &[u8],
-    path: &[u8],
-    is: Known,
-    bytes: &[u8],
-) -> bool {
+pub fn replace_file(rt: &HostRuntime, name: &[u8], path: &[u8], is: Known, bytes: &[u8]) -> bool {
     let mut beside = [0u8; 4352];
     let b = make_beside(rt, path, is, &mut beside);
     let n = b.bytes;

@@ -2,9 +2,8 @@
 ghost use Rattle.std.specs.Prelude.{◌≤◌, length};
 ghost use Rattle.io.specs.Counts.{IsPrefixLen};
 
-use std::fmt;
 use std::fmt::Write;
-use std::io;
+use std::{fmt, io};
 
 // Text that is printed, as much as there is room for.
 #[derive(Drop)]
