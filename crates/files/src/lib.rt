@@ -13,7 +13,7 @@ use std::os::unix::fs::{OpenOptionsExt, PermissionsExt, fchown};
 use std::random::RandomSource;
 use std::{fs, io};
 
-mod words;
+pub mod words;
 
 // ---- what is said
 
