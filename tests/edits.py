@@ -23,7 +23,7 @@ PARTS = ("src", "specs", "proofs")
 CUT = 150
 # How the prover says that the proof speaks of steps which the edited code does not have, or has at another place (the types of what is known after a
 # step are in the module Lts). Such an edit shows nothing of the facts. Where all that it says is that a proof names what is gone, rt says so itself.
-OTHER_SHAPE = re.compile(r"that can be named (from )?here|has no field|the two types differ only where one has `[^`\s]*\bLts\.[A-Z]")
+OTHER_SHAPE = re.compile(r"is not admitted: rejected|was not checked|that can be named (from )?here|has no field|the two types differ only where one has `[^`\s]*\bLts\.[A-Z]")
 # What rt says of an edit: a label, and what came of it.
 SAID = re.compile(r"rt: must-fail (\S+)\.edit: (.*)")
 
