@@ -1,5 +1,5 @@
 -- `text::put_text` meets its contract: before the loop and after each byte the place lies within the buffer.
-use Rattle.std.proofs.Common.{length, ◌-◌, ◌≤◌, ◌×◌}
+use Rattle.std.proofs.Common.{length, ◌-◌, ◌≤◌}
 use Rattle.text.proofs.put_text.Given as goal
 
 abbrev pub invariant-loop-i : goal.invariant-loop-i
