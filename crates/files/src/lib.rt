@@ -2,13 +2,14 @@
 // standard error by the name that the operator wrote, and the caller does nothing more.
 #![tactic(auto)]
 
+ghost use Rattle.std.specs.Prelude.{◌≡◌};
 ghost use Rattle.io.specs.Counts.{IsPrefixLen};
 
 use file_status::errors::{EBADF, EEXIST, ELOOP, ENOENT, number_of};
 use file_status::{Known, Link, PATH_MAX, REGULAR, path_text};
 use std::fs::{File, OpenOptions, Permissions};
 use std::io::{ErrorKind, Print, Read, Write};
-use std::os::fd::{AsFd, BorrowedFd, IntoRawFd};
+use std::os::fd::{AsFd, IntoRawFd};
 use std::os::unix::fs::{OpenOptionsExt, PermissionsExt, fchown};
 use std::random::RandomSource;
 use std::{fs, io};
@@ -52,15 +53,17 @@ pub fn print(rt: &impl Print, line: &[u8]) -> io::Result<()> {
 }
 
 // A descriptor that cannot be doubled for another reason, as when there are too many, is open.
-fn is_closed(stream: BorrowedFd<'_>) -> bool {
-    match stream.try_clone_to_owned() {
+fn is_closed(stream: &impl AsFd) -> bool {
+    match stream.as_fd().try_clone_to_owned() {
         Ok(_) => false,
         Err(e) => number_of(e) == EBADF,
     }
 }
 
-// Opens a file that stays open, by the lowest number that is free: whether that is the number.
-fn hold(rt: &HostRuntime, how: &OpenOptions, number: i32) -> bool {
+// Opens a file that stays open, to be written or to be read alone, by the lowest number that is free: whether that is the number.
+fn hold(rt: &HostRuntime, number: i32, is_written: bool) -> bool {
+    let mut how = OpenOptions::new();
+    how.read(!is_written).append(is_written);
     match how.open(rt, "/dev/null") {
         Ok(file) => file.into_raw_fd() == number,
         Err(_) => false,
@@ -70,15 +73,15 @@ fn hold(rt: &HostRuntime, how: &OpenOptions, number: i32) -> bool {
 // Sees to it that no file that is opened gets the number of a stream, and with it what is meant for that: a closed standard input becomes one that
 // cannot be read, a closed standard error one that cannot be written. False where standard output is closed, or a number stays free.
 pub fn hold_streams(rt: &HostRuntime) -> bool {
-    if is_closed(rt.stdin().as_fd()) {
-        hold(rt, OpenOptions::new().append(true), 0);
+    if is_closed(&rt.stdin()) {
+        hold(rt, 0, true);
     }
-    if is_closed(rt.stdout().as_fd()) {
+    if is_closed(&rt.stdout()) {
         fail(rt, b"standard output", b"", EBADF);
         return false;
     }
-    if is_closed(rt.stderr().as_fd()) {
-        return hold(rt, OpenOptions::new().read(true), 2);
+    if is_closed(&rt.stderr()) {
+        return hold(rt, 2, false);
     }
     true
 }
@@ -184,7 +187,9 @@ fn read_open(rt: &HostRuntime, mut file: File, name: &[u8], buf: &mut [u8]) -> F
     r
 }
 
-fn not_read(error: i32) -> FileRead {
+fn not_read(error: i32) -> FileRead
+    ensures { result.bytes ≡ 0 }
+{
     FileRead {
         bytes: 0,
         done: false,
