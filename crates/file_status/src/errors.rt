@@ -13,6 +13,8 @@ pub const EEXIST: i32 = 17;
 
 pub const EINVAL: i32 = 22;
 
+pub const EFBIG: i32 = 27;
+
 pub const ENOSPC: i32 = 28;
 
 pub const ENAMETOOLONG: i32 = 36;

@@ -7,13 +7,15 @@ ghost use Rattle.io.specs.Counts.{IsPrefixLen};
 
 use file_status::errors::{EBADF, EEXIST, ELOOP, ENOENT, number_of};
 use file_status::{Known, Link, PATH_MAX, REGULAR, path_text};
+use limits::Stream;
 use std::fs::{File, OpenOptions, Permissions};
-use std::io::{ErrorKind, Print, Read, Write};
+use std::io::{ErrorKind, Read, Write};
 use std::os::fd::{AsFd, IntoRawFd};
 use std::os::unix::fs::{OpenOptionsExt, PermissionsExt, fchown};
 use std::random::RandomSource;
 use std::{fs, io};
 
+mod limits;
 pub mod words;
 
 // ---- what is said
@@ -25,7 +27,7 @@ pub fn say(rt: &HostRuntime, what: &[u8], why: &[u8]) {
     let b = text::put_text(&mut line, a, what);
     let c = text::put_text(&mut line, b, why);
     let n = text::put(&mut line, c, b'\n');
-    let _ = Print::write_all(&rt.stderr(), &line[..n]);
+    let _ = limits::write(rt, Stream::Error, &rt.stderr(), &line[..n]);
 }
 
 // Of a word that an operator wrote, which is quoted: what it should be, and what is wrong.
@@ -48,8 +50,8 @@ pub fn fail(rt: &HostRuntime, what: &[u8], why: &[u8], error: i32) {
 }
 
 // A line of the result.
-pub fn print(rt: &impl Print, line: &[u8]) -> io::Result<()> {
-    rt.write_all(line)
+pub fn print(rt: &HostRuntime, line: &[u8]) -> io::Result<()> {
+    limits::write(rt, Stream::Output, &rt.stdout(), line)
 }
 
 // A descriptor that cannot be doubled for another reason, as when there are too many, is open.
@@ -504,8 +506,9 @@ fn succeed(file: &File, is: Known) -> io::Result<()> {
 }
 
 // Writes all the bytes, to the disk, and closes the file.
-fn write(mut file: File, is: Known, bytes: &[u8]) -> io::Result<()> {
-    Write::write_all(&mut file, bytes)?;
+fn write(rt: &HostRuntime, mut file: File, is: Known, bytes: &[u8]) -> io::Result<()> {
+    limits::check(rt, bytes)?;
+    file.write_all(bytes)?;
     succeed(&file, is)?;
     file.sync_all()
 }
@@ -530,7 +533,7 @@ fn write_and_rename(
     file: File,
     bytes: &[u8],
 ) -> io::Result<()> {
-    write(file, is, bytes)?;
+    write(rt, file, is, bytes)?;
     rename(rt, beside, path)
 }
 
