@@ -15,7 +15,7 @@ use packet::low_byte;
 use sheet::wide;
 
 // What the tests give back. Number 0 is success; on refusal system is 0. 7 to 9 name a word of the packet; else word is 0.
-#[derive(Drop)]
+#[derive(Clone, Copy)]
 pub struct Checked {
     pub number: u64,
     pub place: u64,
@@ -24,7 +24,7 @@ pub struct Checked {
 }
 
 // What the tests of packets back to back give: the first at fault, or how many there are.
-#[derive(Drop)]
+#[derive(Clone, Copy)]
 struct Counted {
     number: u64,
     place: u64,

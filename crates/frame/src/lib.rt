@@ -16,24 +16,24 @@ pub use lines::{is_allowed_in_720, is_allowed_in_1080, is_in, lines_of, may_stan
 pub const LIMIT: usize = 1275;
 
 // The standards number lines, channels, sequences and string bytes separately: one does not stand for another.
-#[derive(Drop)]
+#[derive(Clone, Copy)]
 pub struct Line(pub u16);
 
-#[derive(Drop)]
+#[derive(Clone, Copy)]
 pub struct Channel(pub u8);
 
-#[derive(Drop)]
+#[derive(Clone, Copy)]
 pub struct Sequence(pub u8);
 
-#[derive(Drop)]
+#[derive(Clone, Copy)]
 pub struct StringByte(pub u64);
 
 // How many sequences a channel has: no sequence's number.
-#[derive(Drop)]
+#[derive(Clone, Copy)]
 pub struct Sequences(pub u8);
 
 // Document 01, "Three systems": each system carries its figures under its own name.
-#[derive(Drop)]
+#[derive(Clone, Copy)]
 pub struct Hd1080x60i;
 
 impl Hd1080x60i {
@@ -48,7 +48,7 @@ impl Hd1080x60i {
     pub const STRING: usize = 7440;
 }
 
-#[derive(Drop)]
+#[derive(Clone, Copy)]
 pub struct Hd1080x50i;
 
 impl Hd1080x50i {
@@ -63,7 +63,7 @@ impl Hd1080x50i {
     pub const STRING: usize = 8928;
 }
 
-#[derive(Drop)]
+#[derive(Clone, Copy)]
 pub struct Hd720x60p;
 
 impl Hd720x60p {
@@ -79,7 +79,7 @@ impl Hd720x60p {
 }
 
 // All figures of a system; all 0 for a system that is not known.
-#[derive(Drop)]
+#[derive(Clone, Copy)]
 pub struct Figures {
     pub sequences: usize,
     pub last_line: Line,

@@ -103,7 +103,7 @@ fn put_first(out: &mut [u8], t: Tested) -> usize
 }
 
 // What came of a file: the lister's tests of it, and how many bytes the text has.
-#[derive(Drop)]
+#[derive(Clone, Copy)]
 pub struct Listed {
     pub tested: Tested,
     pub bytes: usize,

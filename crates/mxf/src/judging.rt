@@ -191,7 +191,7 @@ fn is_structure(wrapping: u8, last: Line, s: &[u8]) -> bool
 }
 
 // Structures in front that have been passed over: how many, where the last ends, and the numbers of their sheet.
-#[derive(Drop)]
+#[derive(Clone, Copy)]
 struct Passed {
     count: usize,
     at: usize,

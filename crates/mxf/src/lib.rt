@@ -44,7 +44,7 @@ pub fn wrapping(system: u64) -> u8
 
 // What writing gives back. Number 0 is success; on refusal packets and bytes are 0. 7 to 10 name a word of the packet; else word is 0.
 #[repr(C)]
-#[derive(Drop)]
+#[derive(Clone, Copy)]
 pub struct ElementWritten {
     pub number: u64,
     pub place: u64,
@@ -55,7 +55,7 @@ pub struct ElementWritten {
 
 // What reading gives back. Number 0 is success; on refusal packets and numbers are 0.
 #[repr(C)]
-#[derive(Drop)]
+#[derive(Clone, Copy)]
 pub struct ElementRead {
     pub number: u64,
     pub place: u64,

@@ -44,7 +44,7 @@ fn low_nine(w: u16) -> u32
 const MOST: usize = 258;
 
 // What one pass over some words finds: whether each is the word of its low byte, and the whole sum of their low nine bits.
-#[derive(Drop)]
+#[derive(Clone, Copy)]
 struct Pass {
     words: bool,
     sum: u32,
@@ -68,7 +68,7 @@ fn pass_of(ws: &[u16]) -> Pass
 }
 
 // What passes over some words find together, with the sum "modulo 512" (document 01).
-#[derive(Drop)]
+#[derive(Clone, Copy)]
 pub struct Run {
     pub words: bool,
     pub sum: u16,

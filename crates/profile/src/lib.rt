@@ -18,7 +18,7 @@ fn are_eight(did: usize, sdid: usize) -> bool
 }
 
 // Whether a packet is outside the profile, and which is the first.
-#[derive(Drop)]
+#[derive(Clone, Copy)]
 struct Search {
     found: bool,
     place: u64,

@@ -12,7 +12,7 @@ use frame::StringByte;
 use rules::Step;
 
 // "The walker keeps the lent string and its place in it." The fields stand in the order in which `walked_on` takes them.
-#[derive(Drop)]
+#[derive(Clone, Copy)]
 pub struct Walker<'a> {
     pub system: u64,
     pub string: &'a [u8],
@@ -20,7 +20,7 @@ pub struct Walker<'a> {
 }
 
 // An answer, and where the walker then stands.
-#[derive(Drop)]
+#[derive(Clone, Copy)]
 pub struct Walked {
     pub answer: Step,
     pub at: StringByte,

@@ -29,9 +29,9 @@ here t = and 1 packets-from-kinds.ps (is 1 packets-from-kinds.ps left t) packets
 abbrev below : ℕ → In 1 packets-from-kinds.ps
 below t = and 1 packets-from-kinds.ps (falls 1 packets-from-kinds.ps ◌<◌ left t) packets-from.Pre
 
-pub +packets-from-spec : {M : Type 1} → statement M
+pub +packets_from_spec : {M : Type 1} → statement M
 unfolding limit
-+packets-from-spec =
++packets_from_spec =
     close left λ t. lts.spec
     (ends.Asked, ends.Learnt, refusal.Asked, refusal.Learnt, fault.Asked, fault.Learnt, wide.Asked, wide.Learnt, below t, packets-from.Post)
     (here t)
@@ -45,7 +45,7 @@ unfolding limit
     -- the end
     (λ c y e.
     let a = c.before.before.before.before.args in
-    at-end y _ a.us.now a.end a.at _ (sym c.if1.true ∙ c.before.ends.ensures))
+    at-end y _ a.us.now a.end a.at _ (sym c.if-ends.true ∙ c.before.ends.ensures))
     (λ c κs. search rules)
     -- 5
     (λ c y e.
@@ -53,7 +53,7 @@ unfolding limit
     let a = b.before.before.before.before.args in
     let few : a.k < base = omega (arith, b.before.before.before.before.requires.1.1.packet) in
     refusal-code _ 5 _ c.refusal.ensures (omega arith) few
-    ∙ at-limit y _ a.us.now a.end a.at _ (sym b.if1.false ∙ b.before.ends.ensures) c.before.if2.true)
+    ∙ at-limit y _ a.us.now a.end a.at _ (sym b.if-ends.false ∙ b.before.ends.ensures) c.before.if-k-eq-LIMIT.true)
     (λ c. search rules)
     (λ c. search rules)
     (λ c. search rules)
@@ -66,31 +66,31 @@ unfolding limit
     let s = b.before.before.before.before in
     let a = s.args in
     let few : a.k < base = omega (arith, s.requires.1.1.packet) in
-    refusal-code _ _ _ c.refusal2.ensures (is-small _ _ _ (f.fault.ensures y e)) few
-    ∙ at-fault y _ a.us.now a.end a.at _ (sym b.if1.false ∙ b.before.ends.ensures) s.requires.1.1.packet
-    f.before.before.if2.false _ (f.fault.ensures y e) c.before.if3.true)
+    refusal-code _ _ _ c.refusal-then-number-ne0.ensures (is-small _ _ _ (f.fault-number.ensures y e)) few
+    ∙ at-fault y _ a.us.now a.end a.at _ (sym b.if-ends.false ∙ b.before.ends.ensures) s.requires.1.1.packet
+    f.before.before.if-k-eq-LIMIT.false _ (f.fault-number.ensures y e) c.before.if-number-ne0.true)
     (λ c. search rules)
     (λ c.
     let f = c.before in
     let s = f.before.before.before.before.before.before.before in
-    let n = f.fault.ensures (last_only _) refl in
-    let r = run_room (last_only _) s.args.us.now s.args.end s.args.at _ n c.if3.false in
+    let n = f.fault-number.ensures (last_only _) refl in
+    let r = run_room (last_only _) s.args.us.now s.args.end s.args.at _ n c.if-number-ne0.false in
     omega (arith, s.requires.1.1.short))
     (λ c κs. search rules)
     (λ c. search rules)
     (λ c.
     let f = c.before.before.before in
     let s = f.before.before.before.before.before.before.before in
-    let n = f.fault.ensures (last_only _) refl in
-    let r = run_room (last_only _) s.args.us.now s.args.end s.args.at _ n c.before.before.if3.false in
+    let n = f.fault-number.ensures (last_only _) refl in
+    let r = run_room (last_only _) s.args.us.now s.args.end s.args.at _ n c.before.before.if-number-ne0.false in
     omega (arith, s.requires.1.1.short))
     (λ c. search rules)
     (λ c κs.
     let f = c.before.before.before in
     let s = f.before.before.before.before.before.before.before in
     let w = s.requires.1.1 in
-    let n = f.fault.ensures (last_only _) refl in
-    let r = run_room (last_only _) s.args.us.now s.args.end s.args.at _ n c.before.before.if3.false in
+    let n = f.fault-number.ensures (last_only _) refl in
+    let r = run_room (last_only _) s.args.us.now s.args.end s.args.at _ n c.before.before.if-number-ne0.false in
     (omega arith, (s.requires.1.0, record { short = w.short; place = omega arith; packet = omega (arith, w.packet) })))
     -- one packet, and the string behind it
     (λ c y e.
@@ -98,6 +98,6 @@ unfolding limit
     let b = f.before.before.before in
     let s = b.before.before.before.before in
     let a = s.args in
-    c.packets-from.ensures y e
-    ∙ at_next y _ a.us.now a.end a.at _ (sym b.if1.false ∙ b.before.ends.ensures) s.requires.1.1.packet
-    f.before.before.if2.false _ (f.fault.ensures y e) c.before.before.before.if3.false _ c.before.wide.ensures.0)
+    c.packets_from.ensures y e
+    ∙ at_next y _ a.us.now a.end a.at _ (sym b.if-ends.false ∙ b.before.ends.ensures) s.requires.1.1.packet
+    f.before.before.if-k-eq-LIMIT.false _ (f.fault-number.ensures y e) c.before.before.before.if-number-ne0.false _ c.before.wide-size.ensures.0)

@@ -27,9 +27,9 @@ here t = and 2 sound-run-kinds.ps (is 2 sound-run-kinds.ps left t) sound-run.Pre
 abbrev below : ℕ → In 2 sound-run-kinds.ps
 below t = and 2 sound-run-kinds.ps (falls 2 sound-run-kinds.ps ◌<◌ left t) sound-run.Pre
 
-pub +sound-run-spec : {M : Type 1} → statement M
+pub +sound_run_spec : {M : Type 1} → statement M
 unfolding limit
-+sound-run-spec =
++sound_run_spec =
     close left λ t. lts.spec
     (wide.Asked, wide.Learnt, is-sound.Asked, is-sound.Learnt, below t, sound-run.Post)
     (here t)
@@ -47,7 +47,7 @@ unfolding limit
     (λ c. search rules)
     (λ c κs.
     let a = c.before.before.before.before.before.args in
-    let w = c.before.before.wide.ensures in
+    let w = c.before.before.wide-size.ensures in
     part-whole a.us.now a.end a.at (omega arith) (omega arith))
     -- it has a fault
     (λ c.
@@ -65,10 +65,10 @@ unfolding limit
     let f = c.before in
     let n = f.before.before.before.before in
     let a = n.before.before.before.args in (
-      c.sound-run.ensures.0,
+      c.sound_run.ensures.0,
       λ y l room.
-          let z = f.before.is-sound.ensures y l (not-false _ f.if2.false) in
-          c.sound-run.ensures.1 y l room
+          let z = f.before.is_sound.ensures y l (not-false _ f.if-not-is_sound.false-raw) in
+          c.sound_run.ensures.1 y l room
           ∙ run-next y room a.us.now a.end a.at a.k _ (omega arith) (omega arith) (omega arith)
-          n.wide.ensures.0 n.wide.ensures.1 z,
+          n.wide-size.ensures.0 n.wide-size.ensures.1 z,
     ))

@@ -31,34 +31,34 @@ turn : (s : List ℕ) (i a : ℕ) → i < length s → a < 256 → get_or s i 0 
     → (eqb (bit_and a (get_or s i 0)) 255 && all_is 255 (drop (i + 1) s)) ≡ all_is 255 s
 turn s i a h k b e = rw (both-fill a (get_or s i 0) k b, and_assoc, add-one i) (rw (drop-cons s i 0 h) at e)
 
-abbrev invariant-loop : tie.invariant-loop
+abbrev invariant-loop : tie.invariant-loop-i
 invariant-loop s all₀ i₀ all i = (all < 256) × ((eqb all 255 && all_is 255 (drop i s)) ≡ all_is 255 s)
 
-abbrev decreases-loop : tie.decreases-loop
+abbrev decreases-loop : tie.decreases-loop-i
 decreases-loop s all₀ i₀ all i = length s - i
 
-loop-holds : tie.Need-loop-init invariant-loop decreases-loop
+loop-holds : tie.Need-loop-i-init invariant-loop decreases-loop
 loop-holds c = (omega arith, refl)
 
-shared-slice-read-all : tie.Need-shared-slice-read-all invariant-loop decreases-loop
+shared-slice-read-all : tie.Need-bounds-s-i invariant-loop decreases-loop
 shared-slice-read-all c = search rules
 
-add-i : tie.Need-overflow-add-i invariant-loop decreases-loop
+add-i : tie.Need-overflow_add-i invariant-loop decreases-loop
 add-i c = search rules
 
-loop-less : tie.Need-loop-smaller invariant-loop decreases-loop
+loop-less : tie.Need-loop-i-smaller invariant-loop decreases-loop
 loop-less c = search rules
 
-loop-again : tie.Need-loop-preserved invariant-loop decreases-loop
+loop-again : tie.Need-loop-i-preserved invariant-loop decreases-loop
 loop-again c =
-    let l = c.before.before.loop in
-    let b = c.shared-slice-known.given l.i in (
+    let l = c.before.before.loop-i in
+    let b = c.shared_slice_known-1.given l.i in (
       lt_of_le_of_lt (and_le_l _ _) l.invariant.0,
-      turn _ _ _ c.before.loop-test.true l.invariant.0 (omega arith) l.invariant.1,
+      turn _ _ _ c.before.loop-i-test.true l.invariant.0 (omega arith) l.invariant.1,
     )
 
 returns : tie.Need-returns invariant-loop decreases-loop
-returns c = sym (and-true _) ∙ (rw (drop_of_length-le _ c.loop-test.false) at c.before.loop.invariant.1)
+returns c = sym (and-true _) ∙ (rw (drop_of_length-le _ c.loop-i-test.false) at c.before.loop-i.invariant.1)
 
-pub all-fill-spec : {M : Type 1} → statement M
-all-fill-spec = tie.close (tie.spec invariant-loop decreases-loop loop-holds shared-slice-read-all add-i loop-less loop-again returns)
+pub all_fill_spec : {M : Type 1} → statement M
+all_fill_spec = tie.close (tie.spec invariant-loop decreases-loop loop-holds shared-slice-read-all add-i loop-less loop-again returns)

@@ -21,39 +21,39 @@ wide-requires c κs = search rules
 wide-requires-2 : tie.Need-wide-requires-2
 wide-requires-2 c κs = search rules
 
-mul-result : tie.Need-overflow-mul-result
-mul-result c = omega (arith, small c.before.wide.ensures.1 c.wide2.ensures.1)
+mul-result : tie.Need-overflow_mul-result
+mul-result c = omega (arith, small c.before.wide.ensures.1 c.wide-2.ensures.1)
 
 wide-requires-3 : tie.Need-wide-requires-3
 wide-requires-3 c κs = search rules
 
-add-result : tie.Need-overflow-add-result
-add-result c = omega (arith, small c.before.before.wide.ensures.1 c.before.wide2.ensures.1)
+add-result : tie.Need-overflow_add-result
+add-result c = omega (arith, small c.before.before.wide.ensures.1 c.before.wide-2.ensures.1)
 
-mul-result-2 : tie.Need-overflow-mul-result-2
-mul-result-2 c = omega (arith, small c.before.before.wide.ensures.1 c.before.wide2.ensures.1)
+mul-result-2 : tie.Need-overflow_mul-result-2
+mul-result-2 c = omega (arith, small c.before.before.wide.ensures.1 c.before.wide-2.ensures.1)
 
 wide-requires-4 : tie.Need-wide-requires-4
 wide-requires-4 c κs = search rules
 
-add-result-2 : tie.Need-overflow-add-result-2
-add-result-2 c = omega (arith, small c.before.before.before.wide.ensures.1 c.before.before.wide2.ensures.1)
+add-result-2 : tie.Need-overflow_add-result-2
+add-result-2 c = omega (arith, small c.before.before.before.wide.ensures.1 c.before.before.wide-2.ensures.1)
 
-mul-result-3 : tie.Need-overflow-mul-result-3
-mul-result-3 c = omega (arith, small c.before.before.before.wide.ensures.1 c.before.before.wide2.ensures.1)
+mul-result-3 : tie.Need-overflow_mul-result-3
+mul-result-3 c = omega (arith, small c.before.before.before.wide.ensures.1 c.before.before.wide-2.ensures.1)
 
 returns : tie.Need-returns
 unfolding block_start
 returns c =
     simp (
       c.before.before.before.wide.ensures.0,
-      c.before.before.wide2.ensures.0,
-      c.before.wide3.ensures.0,
-      c.wide4.ensures.0,
+      c.before.before.wide-2.ensures.0,
+      c.before.wide-3.ensures.0,
+      c.wide-4.ensures.0,
     )
 
-pub block-start-spec : {M : Type 1} → statement M
-block-start-spec =
+pub block_start_spec : {M : Type 1} → statement M
+block_start_spec =
     tie.close
     (tie.spec
     wide-requires

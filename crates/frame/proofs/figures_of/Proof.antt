@@ -9,21 +9,21 @@ use Rattle.frame.specs.Systems.{figures_of}
 use Rattle.frame.proofs.figures_of.Statement.{statement}
 use Rattle.frame.proofs.figures_of.Tie as tie
 
-returns : tie.Need-returns
+returns : tie.Need-returns-in-1
 unfolding figures_of system block_start shift width runs capacity
-returns c = rw c.match.keys1 refl
+returns c = rw c.in-1.is refl
 
-returns-2 : tie.Need-returns-2
+returns-2 : tie.Need-returns-in-2
 unfolding figures_of system block_start shift width runs capacity
-returns-2 c = rw c.match.keys2 refl
+returns-2 c = rw c.in-2.is refl
 
-returns-3 : tie.Need-returns-3
+returns-3 : tie.Need-returns-in-3
 unfolding figures_of system block_start shift width runs capacity
-returns-3 c = rw c.match.keys3 refl
+returns-3 c = rw c.in-3.is refl
 
-returns-4 : tie.Need-returns-4
+returns-4 : tie.Need-returns-in_default
 unfolding figures_of system block_start shift width runs capacity
-returns-4 c = simp (ne_eqb _ _ c.match.rest.0.0.1, ne_eqb _ _ c.match.rest.0.1, ne_eqb _ _ c.match.rest.1) refl
+returns-4 c = simp (ne_eqb _ _ c.in_default.in_default-own.rest.0.0.1, ne_eqb _ _ c.in_default.in_default-own.rest.0.1, ne_eqb _ _ c.in_default.in_default-own.rest.1) refl
 
-pub figures-of-spec : {M : Type 1} → statement M
-figures-of-spec = tie.close (tie.spec returns returns-2 returns-3 returns-4)
+pub figures_of_spec : {M : Type 1} → statement M
+figures_of_spec = tie.close (tie.spec returns returns-2 returns-3 returns-4)

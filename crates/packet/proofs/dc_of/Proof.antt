@@ -7,17 +7,17 @@ use borrow.Author.Rules.{rules}
 use Rattle.packet.proofs.dc_of.Statement.{statement}
 use Rattle.packet.proofs.dc_of.Tie as tie
 
-returns : tie.Need-returns
-returns c = sym (ap (λ (n : ℕ). n % 256) (get_or-eq_default c.before.before.args.ws.now 0 (omega (arith, c.if1.true))))
+returns : tie.Need-returns-then-ws-lt6
+returns c = sym (ap (λ (n : ℕ). n % 256) (get_or-eq_default c.before.before.args.ws.now 0 (omega (arith, c.if-ws-lt6.true))))
 
-shared-slice-read-low-byte : tie.Need-shared-slice-read-low-byte
+shared-slice-read-low-byte : tie.Need-bounds-ws-5
 shared-slice-read-low-byte c = search rules
 
-low-byte-requires : tie.Need-low-byte-requires
+low-byte-requires : tie.Need-low_byte-requires
 low-byte-requires c κs = search rules
 
-returns-2 : tie.Need-returns-2
+returns-2 : tie.Need-returns
 returns-2 c = search rules
 
-pub dc-of-spec : {M : Type 1} → statement M
-dc-of-spec = tie.close (tie.spec returns shared-slice-read-low-byte low-byte-requires returns-2)
+pub dc_of_spec : {M : Type 1} → statement M
+dc_of_spec = tie.close (tie.spec returns shared-slice-read-low-byte low-byte-requires returns-2)

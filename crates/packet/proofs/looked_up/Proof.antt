@@ -15,73 +15,73 @@ use Rattle.packet.proofs.Laws.{looked-right, looked-wrong, words-end, sum9-next,
 use Rattle.packet.proofs.looked_up.Statement.{statement}
 use Rattle.packet.proofs.looked_up.Tie as tie
 
-abbrev invariant-loop : tie.invariant-loop
+abbrev invariant-loop : tie.invariant-loop-at
 invariant-loop table ws at₀ total₀ at total =
     (total ≤ 511 * at) × (at ≤ length ws) × (total + sum9 (drop at ws) ≡ sum9 ws) × (table ≡ word_table → are_words (drop at ws) ≡ are_words ws)
 
-abbrev decreases-loop : tie.decreases-loop
+abbrev decreases-loop : tie.decreases-loop-at
 decreases-loop table ws at₀ total₀ at total = length ws - at
 
-loop-holds : tie.Need-loop-init invariant-loop decreases-loop
+loop-holds : tie.Need-loop-at-init invariant-loop decreases-loop
 loop-holds c = (omega arith, omega arith, omega arith, λ h. refl)
 
-mul-w : tie.Need-overflow-mul-w invariant-loop decreases-loop
+mul-w : tie.Need-offset_bounds-ws-at invariant-loop decreases-loop
 mul-w c = search rules
 
-shared-slice-read-w : tie.Need-shared-slice-read-w invariant-loop decreases-loop
+shared-slice-read-w : tie.Need-bounds-ws-at invariant-loop decreases-loop
 shared-slice-read-w c = search rules
 
-is-word-requires : tie.Need-is-word-requires invariant-loop decreases-loop
+is-word-requires : tie.Need-is_word-requires invariant-loop decreases-loop
 is-word-requires c κs = search rules
 
-returns : tie.Need-returns invariant-loop decreases-loop
+returns : tie.Need-returns-then-not-is_word invariant-loop decreases-loop
 returns c =
     let p = c.before in
     let d = p.before.before.before in
-    let wrong = not-true _ c.if1.true in
+    let wrong = not-true _ c.if-not-is_word.true-raw in
     record {
       words = λ h.
-          sym (looked-wrong d.loop.at _ p.before.before.loop-test.true (sym (p.is_word.ensures h) ∙ wrong)) ∙ d.loop.invariant.3 h;
+          sym (looked-wrong d.loop-at.at _ p.before.before.loop-at-test.true (sym (p.is_word.ensures h) ∙ wrong)) ∙ d.loop-at.invariant.3 h;
       sum = λ h. never (cc);
     }
 
-low-nine-requires : tie.Need-low-nine-requires invariant-loop decreases-loop
+low-nine-requires : tie.Need-low_nine-total-requires invariant-loop decreases-loop
 low-nine-requires c κs = search rules
 
-add_total : tie.Need-overflow-add-total invariant-loop decreases-loop
+add_total : tie.Need-overflow_add-total invariant-loop decreases-loop
 add_total c = search rules
 
-add_at : tie.Need-overflow-add-at invariant-loop decreases-loop
+add_at : tie.Need-overflow_add-at invariant-loop decreases-loop
 add_at c = search rules
 
-loop-less : tie.Need-loop-smaller invariant-loop decreases-loop
+loop-less : tie.Need-loop-at-smaller invariant-loop decreases-loop
 loop-less c = search rules
 
-loop-again : tie.Need-loop-preserved invariant-loop decreases-loop
+loop-again : tie.Need-loop-at-preserved invariant-loop decreases-loop
 loop-again c =
     let p = c.before.before in
-    let more = p.before.before.loop-test.true in
+    let more = p.before.before.loop-at-test.true in
     let d = p.before.before.before in
     let ws = d.before.before.args.ws.now in
-    let i = d.loop.at in (
+    let i = d.loop-at.at in (
       omega arith,
       omega arith,
       omega (arith, sum9-next i ws more),
-      λ h. looked-right i ws more (sym (p.is_word.ensures h) ∙ not-false _ c.before.if1.false) ∙ d.loop.invariant.3 h,
+      λ h. looked-right i ws more (sym (p.is_word.ensures h) ∙ not-false _ c.before.if-not-is_word.false-raw) ∙ d.loop-at.invariant.3 h,
     )
 
-returns-2 : tie.Need-returns-2 invariant-loop decreases-loop
+returns-2 : tie.Need-returns invariant-loop decreases-loop
 returns-2 c =
-    let l = c.before.loop in
+    let l = c.before.loop-at in
     let ws = c.before.before.before.args.ws.now in
-    let z = sum9-end l.at ws c.loop-test.false in
+    let z = sum9-end l.at ws c.loop-at-test.false in
     record {
-      words = λ h. sym (words-end true l.at ws c.loop-test.false) ∙ l.invariant.3 h;
+      words = λ h. sym (words-end true l.at ws c.loop-at-test.false) ∙ l.invariant.3 h;
       sum = λ h. omega arith;
     }
 
-pub looked-up-spec : {M : Type 1} → statement M
-looked-up-spec =
+pub looked_up_spec : {M : Type 1} → statement M
+looked_up_spec =
     tie.close
     (tie.spec
     invariant-loop

@@ -4,17 +4,17 @@ use Rattle.packet.proofs.Laws.{size-short, size-whole}
 use Rattle.packet.proofs.size_of.Statement.{statement}
 use Rattle.packet.proofs.size_of.Tie as tie
 
-dc-of-requires : tie.Need-dc-of-requires
+dc-of-requires : tie.Need-dc_of-n-requires
 dc-of-requires c κs = search rules
 
-add-n : tie.Need-overflow-add-n
+add-n : tie.Need-overflow_add-n
 add-n c = search rules
 
-returns : tie.Need-returns
-returns c = size-short _ _ c.before.dc-of.ensures c.if1.true
+returns : tie.Need-returns-then-ws-n
+returns c = size-short _ _ c.before.dc_of-n.ensures c.if-ws-n.true
 
-returns-2 : tie.Need-returns-2
-returns-2 c = size-whole _ _ c.before.dc-of.ensures c.if1.false
+returns-2 : tie.Need-returns
+returns-2 c = size-whole _ _ c.before.dc_of-n.ensures c.if-ws-n.false
 
-pub size-of-spec : {M : Type 1} → statement M
-size-of-spec = tie.close (tie.spec dc-of-requires add-n returns returns-2)
+pub size_of_spec : {M : Type 1} → statement M
+size_of_spec = tie.close (tie.spec dc-of-requires add-n returns returns-2)

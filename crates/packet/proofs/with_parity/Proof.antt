@@ -7,18 +7,18 @@ use Rattle.packet.proofs.Laws.{folded-parity}
 use Rattle.packet.proofs.with_parity.Statement.{statement}
 use Rattle.packet.proofs.with_parity.Tie as tie
 
-add-result : tie.Need-overflow-add-result
+add-result : tie.Need-overflow_add-result
 add-result c = search rules
 
-mul-result : tie.Need-overflow-mul-result
+mul-result : tie.Need-overflow_mul-result
 mul-result c = search rules
 
-sub-result : tie.Need-overflow-sub-result
+sub-result : tie.Need-overflow_sub-result
 sub-result c = search rules
 
 returns : tie.Need-returns
 unfolding word
 returns c = omega (arith, folded-parity c.args.b c.requires)
 
-pub with-parity-spec : {M : Type 1} → statement M
-with-parity-spec = tie.close (tie.spec add-result mul-result sub-result returns)
+pub with_parity_spec : {M : Type 1} → statement M
+with_parity_spec = tie.close (tie.spec add-result mul-result sub-result returns)

@@ -9,5 +9,5 @@ returns : tie.Need-returns
 unfolding word_table word parity
 returns c = refl
 
-pub words-spec : {M : Type 1} → statement M
-words-spec = tie.close (tie.spec returns)
+pub words_spec : {M : Type 1} → statement M
+words_spec = tie.close (tie.spec returns)

@@ -15,72 +15,72 @@ use Rattle.sheet.proofs.Laws.{place-more, place-flags, place-line, front-end}
 use Rattle.sheet.proofs.in_place.Statement.{statement}
 use Rattle.sheet.proofs.in_place.Tie as tie
 
-abbrev invariant-loop : tie.invariant-loop
+abbrev invariant-loop : tie.invariant-loop-k
 invariant-loop last ls k₀ k = (2 * k ≤ length ls) × ((y : System) → y.last ≡ last.0 → k + in_front (in_place y) (drop (2 * k) ls) ≡ in_front (in_place y) ls)
 
-abbrev decreases-loop : tie.decreases-loop
+abbrev decreases-loop : tie.decreases-loop-k
 decreases-loop last ls k₀ k = length ls - k
 
-loop-holds : tie.Need-loop-init invariant-loop decreases-loop
+loop-holds : tie.Need-loop-k-init invariant-loop decreases-loop
 loop-holds c = (search rules, λ y e. zero-add _)
 
-mul-if1 : tie.Need-overflow-mul-if1 invariant-loop decreases-loop
+mul-if1 : tie.Need-overflow_mul-k invariant-loop decreases-loop
 mul-if1 c = search rules
 
-add-if1 : tie.Need-overflow-add-if1 invariant-loop decreases-loop
+add-if1 : tie.Need-overflow_add-k invariant-loop decreases-loop
 add-if1 c = search rules
 
-mul-if1-2 : tie.Need-overflow-mul-if1-2 invariant-loop decreases-loop
+mul-if1-2 : tie.Need-offset_bounds-ls-k invariant-loop decreases-loop
 mul-if1-2 c = search rules
 
-shared-slice-read-if1 : tie.Need-shared-slice-read-if1 invariant-loop decreases-loop
+shared-slice-read-if1 : tie.Need-bounds-ls-k invariant-loop decreases-loop
 shared-slice-read-if1 c = search rules
 
-mul-t12 : tie.Need-overflow-mul-t12 invariant-loop decreases-loop
+mul-t12 : tie.Need-overflow_mul-k-else-ls-k-gt3 invariant-loop decreases-loop
 mul-t12 c = search rules
 
-mul-t13 : tie.Need-overflow-mul-t13 invariant-loop decreases-loop
+mul-t13 : tie.Need-offset_bounds-ls-k-else-ls-k-gt3 invariant-loop decreases-loop
 mul-t13 c = search rules
 
-shared-slice-read-t15 : tie.Need-shared-slice-read-t15 invariant-loop decreases-loop
+shared-slice-read-t15 : tie.Need-bounds-ls-k-else-ls-k-gt3 invariant-loop decreases-loop
 shared-slice-read-t15 c = search rules
 
-may-stand-requires : tie.Need-may-stand-requires invariant-loop decreases-loop
+may-stand-requires : tie.Need-may_stand-requires invariant-loop decreases-loop
 may-stand-requires c κs = search rules
 
-returns : tie.Need-returns invariant-loop decreases-loop
+returns : tie.Need-returns-then-ls-k-gt3 invariant-loop decreases-loop
 returns c =
     let ls : List ℕ = c.before.before.before.before.before.args.ls.now in
-    let k : ℕ = c.before.before.before.loop.k in
+    let k : ℕ = c.before.before.before.loop-k.k in
     λ y e.
     ⊎_elim
     (λ w. place-flags y _ e k ls (omega arith) (omega (arith, ltb-true)))
     (λ w. place-line y _ e k ls (omega arith) (sym (w.2.ensures y e) ∙ not-true _ w.3.taken))
-    c.if1.branch
-    ∙ c.before.before.before.loop.invariant.1 y e
+    c.then-ls-k-gt3.branch-raw
+    ∙ c.before.before.before.loop-k.invariant.1 y e
 
-add-k : tie.Need-overflow-add-k invariant-loop decreases-loop
+add-k : tie.Need-overflow_add-k-in-loop-k invariant-loop decreases-loop
 add-k c = search rules
 
-loop-less : tie.Need-loop-smaller invariant-loop decreases-loop
+loop-less : tie.Need-loop-k-smaller invariant-loop decreases-loop
 loop-less c = search rules
 
-loop-again : tie.Need-loop-preserved invariant-loop decreases-loop
+loop-again : tie.Need-loop-k-preserved invariant-loop decreases-loop
 loop-again c =
     let ls : List ℕ = c.before.before.before.before.before.before.before.before.args.ls.now in
-    let l = c.before.before.before.before.before.before.loop in
-    let f = c.before.before.before.if1.false in (
+    let l = c.before.before.before.before.before.before.loop-k in
+    let f = c.before.before.before.if-ls-k-gt3.false in (
       search rules,
       λ y e.
-          let allowed = sym (c.before.may-stand.ensures y e) ∙ not-false _ c.if2.false in
+          let allowed = sym (c.before.may_stand.ensures y e) ∙ not-false _ c.if-not-may_stand.false-raw in
           place-more y _ e l.k ls (omega arith) (omega (arith, ltb-false)) allowed ∙ l.invariant.1 y e,
     )
 
-returns-2 : tie.Need-returns-2 invariant-loop decreases-loop
-returns-2 c = λ y e. front-end (in_place y) _ c.before.before.before.args.ls.now (omega arith) ∙ c.before.loop.invariant.1 y e
+returns-2 : tie.Need-returns invariant-loop decreases-loop
+returns-2 c = λ y e. front-end (in_place y) _ c.before.before.before.args.ls.now (omega arith) ∙ c.before.loop-k.invariant.1 y e
 
-pub in-place-spec : {M : Type 1} → statement M
-in-place-spec =
+pub in_place_spec : {M : Type 1} → statement M
+in_place_spec =
     tie.close
     (tie.spec
     invariant-loop

@@ -6,49 +6,49 @@ use Rattle.sheet.proofs.Laws.{not-one, ends-early, follows}
 use Rattle.sheet.proofs.is_shaped.Statement.{statement}
 use Rattle.sheet.proofs.is_shaped.Tie as tie
 
-shared-slice-read-if2 : tie.Need-shared-slice-read-if2
+shared-slice-read-if2 : tie.Need-bounds-s-0
 shared-slice-read-if2 c = search rules
 
-returns : tie.Need-returns
-returns c = ⊎_elim (λ w. ends-early _ (omega arith)) (λ w. not-one _ w.2.taken) c.if1.branch
+returns : tie.Need-returns-then-s-lt4
+returns c = ⊎_elim (λ w. ends-early _ (omega arith)) (λ w. not-one _ w.2.taken) c.then-s-lt4.branch-raw
 
-shared-slice-read-wide : tie.Need-shared-slice-read-wide
+shared-slice-read-wide : tie.Need-bounds-s-2
 shared-slice-read-wide c = search rules
 
 wide-requires : tie.Need-wide-requires
 wide-requires c κs = search rules
 
-mul-first : tie.Need-overflow-mul-first
+mul-first : tie.Need-overflow_mul-first
 mul-first c = search rules
 
-add-first : tie.Need-overflow-add-first
+add-first : tie.Need-overflow_add-first
 add-first c = search rules
 
-returns-2 : tie.Need-returns-2
+returns-2 : tie.Need-returns-then-s-first
 returns-2 c = let p = c.before.wide.ensures.0 in ends-early _ (omega arith)
 
-sub-w : tie.Need-overflow-sub-w
+sub-w : tie.Need-overflow_sub-w
 sub-w c = search rules
 
-mul_wide : tie.Need-overflow-mul-wide
+mul_wide : tie.Need-offset_bounds-s-w
 mul_wide c = search rules
 
-shared-slice-read-wide-2 : tie.Need-shared-slice-read-wide-2
+shared-slice-read-wide-2 : tie.Need-bounds-s-w
 shared-slice-read-wide-2 c = search rules
 
 wide-requires-2 : tie.Need-wide-requires-2
 wide-requires-2 c κs = search rules
 
-add-result : tie.Need-overflow-add-result
+add-result : tie.Need-overflow_add-result
 add-result c = search rules
 
-returns-3 : tie.Need-returns-3
+returns-3 : tie.Need-returns
 returns-3 c =
-    let b : tie.Else3 = c.before.before in
-    follows _ _ _ b.before.before.before.if2.false b.before.wide.ensures.0 b.if3.false c.wide2.ensures.0
+    let b : tie.Else-s-first = c.before.before in
+    follows _ _ _ b.before.before.before.if-s-ne1.false-raw b.before.wide.ensures.0 b.if-s-first.false c.wide-2.ensures.0
 
-pub is-shaped-spec : {M : Type 1} → statement M
-is-shaped-spec =
+pub is_shaped_spec : {M : Type 1} → statement M
+is_shaped_spec =
     tie.close
     (tie.spec
     shared-slice-read-if2

@@ -41,8 +41,8 @@ starter-here t = and 1 starter-kinds.ps (is 1 starter-kinds.ps left-starter t) s
 abbrev starter-below : ℕ → In 1 starter-kinds.ps
 starter-below t = and 1 starter-kinds.ps (falls 1 starter-kinds.ps ◌<◌ left-starter t) starter.Pre
 
-pub +carrier-starter-spec : {M : Type 1} → statement M
-+carrier-starter-spec =
+pub +carrier_starter_spec : {M : Type 1} → statement M
++carrier_starter_spec =
     close left-carrier left-starter
     -- `carrier`
     (λ t. carrier-lts.spec
@@ -50,40 +50,40 @@ pub +carrier-starter-spec : {M : Type 1} → statement M
     (carrier-here t)
     carrier.Post
     -- no pack
-    (λ c. let a = c.before.args in order-short a.us.now a.at a.total c.if1.true)
+    (λ c. let a = c.before.args in order-short a.us.now a.at a.total c.if-at-total.true)
     (λ c. search rules)
     (λ c. search rules)
     (λ c κs. let p = c.before.before.before.requires.1 in (behind-first p.0 (omega arith), p.1))
     (λ c κs.
     let p = c.before.before.before.before.requires.1 in
-    let v = c.carriers-end.ensures in
+    let v = c.carriers_end.ensures in
     (omega arith, (v.packs, p.1)))
     -- a carrier: those behind it are passed, and the other reader goes on
     (λ c.
     let p = c.before.before.before.before.before.requires.1 in
-    order-second p.0 (omega arith) c.before.before.if2.true (c.starter.ensures ∙ c.before.carriers-end.ensures.same))
+    order-second p.0 (omega arith) c.before.before.if-us-at.true (c.starter.ensures ∙ c.before.carriers_end.ensures.same))
     -- anything else
-    (λ c. let p = c.before.before.before.requires.1 in order-no-carrier p.0 (omega arith) c.if2.false))
+    (λ c. let p = c.before.before.before.requires.1 in order-no-carrier p.0 (omega arith) c.if-us-at.false))
     -- `starter`
     λ t. starter-lts.spec
     (starter-below t, starter.Post, carrier-below t, carrier.Post, all-fill.Asked, all-fill.Learnt)
     (starter-here t)
     starter.Post
     -- no pack
-    (λ c. let a = c.before.args in order-end a.us.now a.at a.total c.if1.true)
+    (λ c. let a = c.before.args in order-end a.us.now a.at a.total c.if-at-total.true)
     (λ c. search rules)
     (λ c. search rules)
     (λ c κs. let p = c.before.before.before.requires.1 in (omega arith, (behind-first p.0 (omega arith), p.1)))
     -- a carrier
     (λ c.
     let p = c.before.before.before.before.requires.1 in
-    order-carrier p.0 (omega arith) c.before.if2.true c.starter.ensures)
+    order-carrier p.0 (omega arith) c.before.if-us-at.true c.starter.ensures)
     (λ c. search rules)
     (λ c κs. let p = c.before.before.before.before.requires.1 in (omega arith, (behind-first p.0 (omega arith), p.1)))
     -- a starter: the other reader goes on
     (λ c.
     let p = c.before.before.before.before.before.requires.1 in
-    order-starter p.0 (omega arith) c.before.if3.true c.carrier.ensures)
+    order-starter p.0 (omega arith) c.before.if-head-2.true c.carrier.ensures)
     (λ c. search rules)
     (λ c. search rules)
     (λ c. search rules)
@@ -93,10 +93,10 @@ pub +carrier-starter-spec : {M : Type 1} → statement M
     let f = c.before in
     let b = f.before.before.before.before in
     let p = b.before.before.before.requires.1 in
-    order-fill p.0 (omega arith) b.if2.false f.before.before.before.if3.false (sym f.all-fill.ensures ∙ c.if4.true))
+    order-fill p.0 (omega arith) b.if-us-at.false f.before.before.before.if-head-2.false (sym f.all_fill.ensures ∙ c.if-all_fill.true))
     -- anything else
     (λ c.
     let f = c.before in
     let b = f.before.before.before.before in
     let p = b.before.before.before.requires.1 in
-    order-wrong p.0 (omega arith) b.if2.false f.before.before.before.if3.false (sym f.all-fill.ensures ∙ c.if4.false))
+    order-wrong p.0 (omega arith) b.if-us-at.false f.before.before.before.if-head-2.false (sym f.all_fill.ensures ∙ c.if-all_fill.false))

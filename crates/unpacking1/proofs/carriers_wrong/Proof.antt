@@ -6,15 +6,15 @@ use Rattle.unpacking1.proofs.carriers_wrong.Statement.{statement}
 use Rattle.unpacking1.proofs.carriers_wrong.Tie as tie
 
 -- no carrier
-returns : tie.Need-returns
-returns c = rw (eq-eqb _ _ c.if1.true)
+returns : tie.Need-returns-then-at-first
+returns c = rw (eq-eqb _ _ c.if-at-first.true)
 
-order-wrong-requires : tie.Need-order-wrong-requires
+order-wrong-requires : tie.Need-order_wrong-requires
 order-wrong-requires c κs = search rules
 
 -- carriers
-returns-2 : tie.Need-returns-2
-returns-2 c = rw (ne_eqb _ _ c.before.if1.false) c.order-wrong.ensures
+returns-2 : tie.Need-returns
+returns-2 c = rw (ne_eqb _ _ c.before.if-at-first.false) c.order_wrong.ensures
 
-pub carriers-wrong-spec : {M : Type 1} → statement M
-carriers-wrong-spec = tie.close (tie.spec returns order-wrong-requires returns-2)
+pub carriers_wrong_spec : {M : Type 1} → statement M
+carriers_wrong_spec = tie.close (tie.spec returns order-wrong-requires returns-2)

@@ -16,184 +16,184 @@ use Rattle.unpacking1.proofs.open_packet.Tie as tie
 -- ---- what is known on the way
 
 -- where the packet's packs end was found
-module _ (c : tie.Else1) where
+module _ (c : tie.Else-stop-eq0) where
   -- the call
   abbrev start : tie.Start
   start = c.before.before.before.before
 
   -- where they end
   abbrev stop : ℕ
-  stop = c.before.packs-end.result
+  stop = c.before.packs_end-stop.result
 
   -- whole packs stand there
   packs : Within start.args.us.now start.args.at start.args.total
-  packs = start.pre.0
+  packs = start.requires.0
 
   -- and the packet's end at `stop`
   packs-end : PacksEnd start.args.us.now start.args.at start.args.total stop
-  packs-end = c.before.packs-end.ensures
+  packs-end = c.before.packs_end-stop.ensures
 
   -- it is moved down
   low : start.args.to ≤ start.args.at
-  low = start.pre.3
+  low = start.requires.3
 
 -- where the carriers were opened
-module _ (c : tie.After-open-carriers) where
+module _ (c : tie.After-open_carriers-reached) where
   -- what was known before
-  abbrev found : tie.Else1
-  found = c.before.before.before.before.before.before.before
+  abbrev found : tie.Else-stop-eq0
+  found = c.before.before.before.before.before.before.before.before
 
   -- where DC was read
-  abbrev read : tie.After-wide
+  abbrev read : tie.After-wide-dc
   read = c.before.before.before.before.before
 
   -- there are as many bytes as at the start
-  after-long : length c.open-carriers.new.0 ≡ length (start found).args.us.now
-  after-long = let a = (start found).args in c.open-carriers.auto.0 ∙ headed-length a.us.now a.at a.to
+  after-long : length c.open_carriers-reached.new.us ≡ length (start found).args.us.now
+  after-long = let a = (start found).args in c.open_carriers-reached.auto.0 ∙ headed-length a.us.now a.at a.to
 
 -- ---- the needs
 
-packs-end-requires : tie.Need-packs-end-requires
+packs-end-requires : tie.Need-packs_end-stop-requires
 packs-end-requires c κs = search rules
 
-order-wrong-requires : tie.Need-order-wrong-requires
+order-wrong-requires : tie.Need-order_wrong-requires
 order-wrong-requires c κs = search rules
 
-returns : tie.Need-returns
-returns c = packet-not (c.before.before.before.packs-end.ensures.shut c.before.before.if1.true) c.order-wrong.ensures
+returns : tie.Need-returns-then-stop-eq0
+returns c = packet-not (c.before.before.before.packs_end-stop.ensures.shut c.before.before.if-stop-eq0.true) c.order_wrong.ensures
 
-add_wide : tie.Need-overflow-add-wide
+add_wide : tie.Need-overflow_add-at
 add_wide c = search rules
 
-element-copy-out-wide : tie.Need-element-copy-out-wide
+element-copy-out-wide : tie.Need-bounds-us-at
 element-copy-out-wide c =
-    let p = stop_is (packs c) (packs-end c) c.if1.false in
-    let i = stop-within (packs c) (packs-end c) c.if1.false in
+    let p = stop_is (packs c) (packs-end c) c.before.if-stop-eq0.false in
+    let i = stop-within (packs c) (packs-end c) c.before.if-stop-eq0.false in
     let l = (start c).requires.1 in
     omega arith
 
-wide-requires : tie.Need-wide-requires
+wide-requires : tie.Need-wide-dc-requires
 wide-requires c κs = search rules
 
-add-end : tie.Need-overflow-add-end
+add-end : tie.Need-overflow_add-end
 add-end c = search rules
 
-add-end-2 : tie.Need-overflow-add-end-2
+add-end-2 : tie.Need-overflow_add-end-2
 add-end-2 c = search rules
 
-add-full : tie.Need-overflow-add-full
+add-full : tie.Need-overflow_add-full
 add-full c = search rules
 
-mul-full : tie.Need-overflow-mul-full
+mul-full : tie.Need-overflow_mul-full
 mul-full c = search rules
 
-add-full-2 : tie.Need-overflow-add-full-2
+add-full-2 : tie.Need-overflow_add-full-2
 add-full-2 c = search rules
 
-add-full-3 : tie.Need-overflow-add-full-3
+add-full-3 : tie.Need-overflow_add-full-3
 add-full-3 c = search rules
 
-add-h0 : tie.Need-overflow-add-h0
+add-h0 : tie.Need-overflow_add-h0
 add-h0 c = search rules
 
-element-copy-out-h0 : tie.Need-element-copy-out-h0
+element-copy-out-h0 : tie.Need-bounds-us-at-2
 element-copy-out-h0 c = search rules
 
-add-h1 : tie.Need-overflow-add-h1
+add-h1 : tie.Need-overflow_add-h1
 add-h1 c = search rules
 
-element-copy-out-h1 : tie.Need-element-copy-out-h1
+element-copy-out-h1 : tie.Need-bounds-us-at-3
 element-copy-out-h1 c = search rules
 
-add-h2 : tie.Need-overflow-add-h2
+add-h2 : tie.Need-overflow_add-h2
 add-h2 c = search rules
 
-element-copy-out-h2 : tie.Need-element-copy-out-h2
+element-copy-out-h2 : tie.Need-bounds-us-at-4
 element-copy-out-h2 c = search rules
 
-element-write-us : tie.Need-element-write-us
+element-write-us : tie.Need-bounds-us-to
 element-write-us c = search rules
 
-add-us : tie.Need-overflow-add-us
+add-us : tie.Need-overflow_add-us
 add-us c = search rules
 
-element-write-us-2 : tie.Need-element-write-us-2
+element-write-us-2 : tie.Need-bounds-us-to-2
 element-write-us-2 c = search rules
 
-add-us-2 : tie.Need-overflow-add-us-2
+add-us-2 : tie.Need-overflow_add-us-2
 add-us-2 c = search rules
 
-element-write-us-3 : tie.Need-element-write-us-3
+element-write-us-3 : tie.Need-bounds-us-to-3
 element-write-us-3 c = search rules
 
-add-open-carriers : tie.Need-overflow-add-open-carriers
+add-open-carriers : tie.Need-overflow_add-at-2
 add-open-carriers c = search rules
 
-add-open-carriers-2 : tie.Need-overflow-add-open-carriers-2
+add-open-carriers-2 : tie.Need-overflow_add-to
 add-open-carriers-2 c = search rules
 
-open-carriers-requires : tie.Need-open-carriers-requires
+open-carriers-requires : tie.Need-open_carriers-reached-requires
 open-carriers-requires c κs =
-    let e : tie.Else1 = c.before.before.before.before.before.before in
+    let e : tie.Else-stop-eq0 = c.before.before.before.before.before.before.before in
     let l = low e in
-    (carriers-within (packs e) (packs-end e) e.if1.false l, omega arith)
+    (carriers-within (packs e) (packs-end e) e.if-stop-eq0.false l, omega arith)
 
-add-carriers-wrong : tie.Need-overflow-add-carriers-wrong
+add-carriers-wrong : tie.Need-overflow_add-at-then-reached-stop
 add-carriers-wrong c = search rules
 
-carriers-wrong-requires : tie.Need-carriers-wrong-requires
+carriers-wrong-requires : tie.Need-carriers_wrong-requires
 carriers-wrong-requires c κs =
-    let o : tie.After-open-carriers = c.before.before in
+    let o : tie.After-open_carriers-reached = c.before.before in
     let e = found o in
-    (rest-within (packs e) (packs-end e) e.if1.left (low e) o.open-carriers.ensures (after-long o), after-long o ∙ (start e).pre.1)
+    (rest-within (packs e) (packs-end e) e.if-stop-eq0.false (low e) o.open_carriers-reached.ensures (after-long o), after-long o ∙ (start e).requires.1)
 
-returns-2 : tie.Need-returns-2
+returns-2 : tie.Need-returns-then-reached-stop
 returns-2 c =
-    let o : tie.After-open-carriers = c.before.before.before in
+    let o : tie.After-open_carriers-reached = c.before.before.before in
     let e = found o in
-    opened-shut (packs e) (packs-end e) e.if1.left (low e) o.open-carriers.ensures c.before.before.if2.true
-    c.carriers-wrong.ensures
+    opened-shut (packs e) (packs-end e) e.if-stop-eq0.false (low e) o.open_carriers-reached.ensures c.before.before.if-reached-stop.true
+    c.carriers_wrong.ensures
 
-unused-are-fill-requires : tie.Need-unused-are-fill-requires
+unused-are-fill-requires : tie.Need-unused_are_fill-requires
 unused-are-fill-requires c κs =
-    let o : tie.After-open-carriers = c.before.before.before in
+    let o : tie.After-open_carriers-reached = c.before.before.before in
     let e = found o in
-    let p = stop_is (packs e) (packs-end e) e.if1.left in
-    let i = stop-within (packs e) (packs-end e) e.if1.left in
-    let d = (read o).wide.ensures.0 in
+    let p = stop_is (packs e) (packs-end e) e.if-stop-eq0.false in
+    let i = stop-within (packs e) (packs-end e) e.if-stop-eq0.false in
+    let d = (read o).wide-dc.ensures.0 in
     let l = after-long o in
     let m = low e in
     (omega arith, omega arith, omega arith)
 
-order-wrong-requires-2 : tie.Need-order-wrong-requires-2
+order-wrong-requires-2 : tie.Need-order_wrong-requires-then-not-unused_are_fill
 order-wrong-requires-2 c κs =
-    let o : tie.After-open-carriers = c.before.before.before.before.before.before in
+    let o : tie.After-open_carriers-reached = c.before.before.before.before.before.before in
     let e = found o in
-    let all = c.before.before.before.before.before.if2.false in (
-      stop-rest (packs e) (packs-end e) e.if1.left (low e) o.open-carriers.ensures all (after-long o),
-      after-long o ∙ (start e).pre.1,
+    let all = c.before.before.before.before.before.if-reached-stop.false in (
+      stop-rest (packs e) (packs-end e) e.if-stop-eq0.false (low e) o.open_carriers-reached.ensures all (after-long o),
+      after-long o ∙ (start e).requires.1,
     )
 
-returns-3 : tie.Need-returns-3
+returns-3 : tie.Need-returns-then-not-unused_are_fill
 returns-3 c =
-    let o : tie.After-open-carriers = c.before.before.before.before.before.before.before in
+    let o : tie.After-open_carriers-reached = c.before.before.before.before.before.before.before in
     let e = found o in
-    let all = c.before.before.before.before.before.before.if2.false in
-    let f = c.before.before.before.unused-are-fill in
-    packet-shut (packs e) (packs-end e) e.if1.left (low e) o.open-carriers.ensures all (read o).wide.ensures.0
-    (sym f.ensures ∙ not-true f.result c.before.before.if3.true) c.order-wrong2.ensures
+    let all = c.before.before.before.before.before.before.if-reached-stop.false in
+    let f = c.before.before.before.unused_are_fill in
+    packet-shut (packs e) (packs-end e) e.if-stop-eq0.false (low e) o.open_carriers-reached.ensures all (read o).wide-dc.ensures.0
+    (sym f.ensures ∙ not-true f.result c.before.before.if-not-unused_are_fill.true) c.order_wrong-then-not-unused_are_fill.ensures
 
-returns-4 : tie.Need-returns-4
+returns-4 : tie.Need-returns
 returns-4 c =
-    let o : tie.After-open-carriers = c.before.before.before.before.before in
+    let o : tie.After-open_carriers-reached = c.before.before.before.before.before in
     let e = found o in
-    let all = c.before.before.before.before.if2.false in
-    let f = c.before.unused-are-fill in
-    packet-opened (packs e) (packs-end e) e.if1.left (low e) o.open-carriers.ensures all (read o).wide.ensures.0
-    (sym f.ensures ∙ not-false f.result c.if3.false)
+    let all = c.before.before.before.before.if-reached-stop.false in
+    let f = c.before.unused_are_fill in
+    packet-opened (packs e) (packs-end e) e.if-stop-eq0.false (low e) o.open_carriers-reached.ensures all (read o).wide-dc.ensures.0
+    (sym f.ensures ∙ not-false f.result c.if-not-unused_are_fill.false-raw)
 
-pub open-packet-spec : {M : Type 1} → statement M
-open-packet-spec =
+pub open_packet_spec : {M : Type 1} → statement M
+open_packet_spec =
     tie.close
     (tie.spec
     packs-end-requires

@@ -32,31 +32,31 @@ use Rattle.unpacking1.proofs.open_packets.Statement.{statement}
 use Rattle.unpacking1.proofs.open_packets.Tie as tie
 
 -- what holds at each turn
-abbrev invariant-loop : tie.invariant-loop
+abbrev invariant-loop : tie.invariant-loop-last
 invariant-loop last us₀ total lines r₀ w₀ k₀ us r w k = Opening last.0 us₀ us total r w k
 
 -- what is left
-abbrev decreases-loop : tie.decreases-loop
+abbrev decreases-loop : tie.decreases-loop-last
 decreases-loop last us₀ total lines r₀ w₀ k₀ us r w k = total - r
 
 -- ---- what is known on the way
 
 -- where a packet was opened
 abbrev Opened : Type 0
-Opened = tie.After-open-packet invariant-loop decreases-loop
+Opened = tie.After-open_packet-next invariant-loop decreases-loop
 
 module _ (o : Opened) where
   -- the loop's turn
-  abbrev turn : tie.At-loop invariant-loop decreases-loop
+  abbrev turn : tie.At-loop-last invariant-loop decreases-loop
   turn = o.before.before.before.before.before
 
   -- a packet starts there
-  goes : (ltb turn.loop.r turn.before.before.args.total && eqb (get_or turn.loop.us turn.loop.r 0) 0xE1) ≡ true
-  goes = sym o.before.before.before.starts.ensures ∙ o.before.before.if1.taken
+  goes : (ltb turn.loop-last.r turn.before.before.args.total && eqb (get_or turn.loop-last.us turn.loop-last.r 0) 0xE1) ≡ true
+  goes = sym o.before.before.before.starts.ensures ∙ o.before.before.loop-last-test.true
 
 -- where neither 13 nor 14 was given
 abbrev Whole : Type 0
-Whole = tie.Else3 invariant-loop decreases-loop
+Whole = tie.Else-next-eq0 invariant-loop decreases-loop
 
 module _ (h : Whole) where
   -- the packet
@@ -64,12 +64,12 @@ module _ (h : Whole) where
   opened = h.before.before
 
   -- its packs end at a place
-  place : 1 < opened.open-packet.result
-  place = let a = h.before.if2.left in let b = h.if3.left in omega arith
+  place : 1 < opened.open_packet-next.result
+  place = let a = h.before.if-next-eq1.false in let b = h.if-next-eq0.false in omega arith
 
 -- where the packet's bytes were judged
 abbrev Judged : Type 0
-Judged = tie.After-judged invariant-loop decreases-loop
+Judged = tie.After-judged-code invariant-loop decreases-loop
 
 module _ (j : Judged) where
   -- what was known before
@@ -77,66 +77,66 @@ module _ (j : Judged) where
   whole = j.before.before.before.before.before.before.before
 
   -- there are as many bytes as at the start
-  full : length (opened whole).open-packet.last.0 ≡ 9360
-  full = j.before.before.before.before.before.s2.given.0
+  full : length (opened whole).open_packet-next.new.us ≡ 9360
+  full = j.before.before.before.before.before.s-in-loop-last-1.given
 
-  after-long : length (opened whole).open-packet.last.0 ≡ length (turn (opened whole)).loop.us
-  after-long = let v = (turn (opened whole)).loop.inv in full ∙ sym v.size ∙ sym v.long
+  after-long : length (opened whole).open_packet-next.new.us ≡ length (turn (opened whole)).loop-last.us
+  after-long = let v = (turn (opened whole)).loop-last.invariant in full ∙ sym v.size ∙ sym v.long
 
 -- ---- the needs
 
-lines-of-requires : tie.Need-lines-of-requires invariant-loop decreases-loop
+lines-of-requires : tie.Need-lines_of-lines-requires invariant-loop decreases-loop
 lines-of-requires c κs = search rules
 
-loop-holds : tie.Need-loop-init invariant-loop decreases-loop
+loop-holds : tie.Need-loop-last-init invariant-loop decreases-loop
 loop-holds c = let p = c.before.requires in opening-none _ _ _ p.0 p.1
 
 starts-requires : tie.Need-starts-requires invariant-loop decreases-loop
 starts-requires c κs =
-    let v = c.before.loop.invariant in
+    let v = c.before.loop-last.invariant in
     let l = v.long in
     let a = v.packs.all in
     (omega arith, l ∙ v.size)
 
-open-packet-requires : tie.Need-open-packet-requires invariant-loop decreases-loop
+open-packet-requires : tie.Need-open_packet-next-requires invariant-loop decreases-loop
 open-packet-requires c κs =
-    let v = c.before.before.before.before.loop.invariant in
-    let g = sym c.before.before.starts.ensures ∙ c.before.if1.true in
+    let v = c.before.before.before.before.loop-last.invariant in
+    let g = sym c.before.before.starts.ensures ∙ c.before.loop-last-test.true in
     (packet-within v, v.long ∙ v.size, packet-left v g, v.low)
 
 refusal-requires : tie.Need-refusal-requires invariant-loop decreases-loop
 refusal-requires c κs = search rules
 
 -- 13
-returns : tie.Need-returns invariant-loop decreases-loop
+returns : tie.Need-returns-then-next-eq1 invariant-loop decreases-loop
 returns c = λ y e.
     let o : Opened = c.before.before in
-    refused-opens (refused-wrong (turn o).loop.invariant (goes o) o.open-packet.ensures c.before.if2.true y) (omega arith) (omega arith)
+    refused-opens (refused-wrong (turn o).loop-last.invariant (goes o) o.open_packet-next.ensures c.before.if-next-eq1.true y) (omega arith) (omega arith)
     c.refusal.ensures
 
-refusal-requires-2 : tie.Need-refusal-requires-2 invariant-loop decreases-loop
+refusal-requires-2 : tie.Need-refusal-requires-then-next-eq0 invariant-loop decreases-loop
 refusal-requires-2 c κs = search rules
 
 -- 14
-returns-2 : tie.Need-returns-2 invariant-loop decreases-loop
+returns-2 : tie.Need-returns-then-next-eq0 invariant-loop decreases-loop
 returns-2 c = λ y e.
     let o : Opened = c.before.before.before in
-    let v = (turn o).loop.invariant in
-    refused-opens (refused-fourteen v (goes o) o.open-packet.ensures c.before.if3.true y e) (omega arith) (below-base v)
-    c.refusal2.ensures
+    let v = (turn o).loop-last.invariant in
+    refused-opens (refused-fourteen v (goes o) o.open_packet-next.ensures c.before.if-next-eq0.true y e) (omega arith) (below-base v)
+    c.refusal-then-next-eq0.ensures
 
-add_wide : tie.Need-overflow-add-wide invariant-loop decreases-loop
+add_wide : tie.Need-overflow_add-w invariant-loop decreases-loop
 add_wide c = search rules
 
 -- DC is within the packet, which is within the packs
-shared-slice-read-wide : tie.Need-shared-slice-read-wide invariant-loop decreases-loop
+shared-slice-read-wide : tie.Need-bounds-s-w invariant-loop decreases-loop
 shared-slice-read-wide c =
     let h : Whole = c.before.before.before in
     let o = opened h in
-    let v = (turn o).loop.inv in
-    let a = size-within v (goes o) o.open-packet.ensures (place h) in
-    let b = o.open-packet.ensures.within (place h) in
-    let f = c.before.s2.given.0 in
+    let v = (turn o).loop-last.invariant in
+    let a = size-within v (goes o) o.open_packet-next.ensures (place h) in
+    let b = o.open_packet-next.ensures.within (place h) in
+    let f = c.before.s-in-loop-last-1.given in
     let l = v.size in
     let m = v.packs.all in
     omega arith
@@ -144,21 +144,21 @@ shared-slice-read-wide c =
 wide-requires : tie.Need-wide-requires invariant-loop decreases-loop
 wide-requires c κs = search rules
 
-add-end : tie.Need-overflow-add-end invariant-loop decreases-loop
+add-end : tie.Need-overflow_add-end invariant-loop decreases-loop
 add-end c = search rules
 
-add-end-2 : tie.Need-overflow-add-end-2 invariant-loop decreases-loop
+add-end-2 : tie.Need-overflow_add-end-in-loop-last invariant-loop decreases-loop
 add-end-2 c = search rules
 
 -- so is its last byte
-judged-requires : tie.Need-judged-requires invariant-loop decreases-loop
+judged-requires : tie.Need-judged-code-requires invariant-loop decreases-loop
 judged-requires c κs =
     let h : Whole = c.before.before.before.before.before.before in
     let o = opened h in
-    let v = (turn o).loop.inv in
+    let v = (turn o).loop-last.invariant in
     let d = c.before.before.wide.ensures.0 in
-    let a = size_below v (goes o) o.open-packet.ensures (place h) d in
-    let b = o.open-packet.ensures.within (place h) in
+    let a = size_below v (goes o) o.open_packet-next.ensures (place h) d in
+    let b = o.open_packet-next.ensures.within (place h) in
     let l = v.size in
     let m = v.packs.all in
     (omega arith, omega arith)
@@ -168,46 +168,46 @@ refused-requires c κs =
     let j : Judged = c.before.before in
     let h = whole j in
     let o = opened h in
-    (next-within (turn o).loop.inv (goes o) o.open-packet.ensures (place h) (after-long j), full j)
+    (next-within (turn o).loop-last.invariant (goes o) o.open_packet-next.ensures (place h) (after-long j), full j)
 
 -- 15, 16, 20, or 13 before them
-returns-3 : tie.Need-returns-3 invariant-loop decreases-loop
+returns-3 : tie.Need-returns-then-code-ne0 invariant-loop decreases-loop
 returns-3 c = λ y e.
     let j : Judged = c.before.before.before in
     let h = whole j in
     let o = opened h in
-    let v = (turn o).loop.inv in
-    let lines = (turn o).before.lines_of.ensures in
+    let v = (turn o).loop-last.invariant in
+    let lines = (turn o).before.lines_of-lines.ensures in
     let few = below-limit v (packet-left v (goes o)) in
-    refused-other v (goes o) o.open-packet.ensures (place h) j.before.before.before.wide.ensures.0
-    (λ y e. j.judged.ensures y e lines few) c.before.before.if4.true c.refused.ensures y e
+    refused-other v (goes o) o.open_packet-next.ensures (place h) j.before.before.before.wide.ensures.0
+    (λ y e. j.judged-code.ensures y e lines few) c.before.before.if-code-ne0.true c.refused.ensures y e
 
-add-k : tie.Need-overflow-add-k invariant-loop decreases-loop
-add-k c = let b = below-base (turn (opened (whole c.before))).loop.inv in search rules
+add-k : tie.Need-overflow_add-k invariant-loop decreases-loop
+add-k c = let b = below-base (turn (opened (whole c.before))).loop-last.invariant in search rules
 
 -- a packet has packs
-loop-less : tie.Need-loop-smaller invariant-loop decreases-loop
+loop-less : tie.Need-loop-last-smaller invariant-loop decreases-loop
 loop-less c =
     let h : Whole = whole c.before in
     let o = opened h in
-    left-falls (turn o).loop.inv (goes o) o.open-packet.ensures (place h)
+    left-falls (turn o).loop-last.invariant (goes o) o.open_packet-next.ensures (place h)
 
 -- one packet more
-loop-again : tie.Need-loop-preserved invariant-loop decreases-loop
+loop-again : tie.Need-loop-last-preserved invariant-loop decreases-loop
 loop-again c =
     let j : Judged = c.before in
     let h = whole j in
     let o = opened h in
-    let v = (turn o).loop.inv in
-    let lines = (turn o).before.lines_of.ensures in
+    let v = (turn o).loop-last.invariant in
+    let lines = (turn o).before.lines_of-lines.ensures in
     let few = below-limit v (packet-left v (goes o)) in
-    let bytes : Bytes o.open-packet.last.0 = λ i. (j.before.before.before.before.shared-slice-known.given i).fits in
-    opening-more v (goes o) o.open-packet.ensures (place h) j.before.before.before.wide.ensures.0
-    (λ y e. j.judged.ensures y e lines few) c.if4.false bytes (after-long j)
+    let bytes : Bytes o.open_packet-next.new.us = λ i. (j.before.before.before.before.shared_slice_known-1.given i).fits in
+    opening-more v (goes o) o.open_packet-next.ensures (place h) j.before.before.before.wide.ensures.0
+    (λ y e. j.judged-code.ensures y e lines few) c.if-code-ne0.false bytes (after-long j)
 
 ended-requires : tie.Need-ended-requires invariant-loop decreases-loop
 ended-requires c κs =
-    let v = c.before.before.before.before.loop.invariant in
+    let v = c.before.before.before.before.loop-last.invariant in
     let a = v.low in
     let b = v.packs.reach in
     let d = v.packs.all in
@@ -216,13 +216,13 @@ ended-requires c κs =
     (packet-within v, v.long ∙ l, omega arith, omega arith)
 
 -- no packet starts
-returns-4 : tie.Need-returns-4 invariant-loop decreases-loop
+returns-4 : tie.Need-returns invariant-loop decreases-loop
 returns-4 c =
     let s = c.before.before.before in
-    opening-ended s.before.before.loop.invariant (sym s.starts.ensures ∙ c.before.before.if1.false) c.ended.ensures
+    opening-ended s.before.before.loop-last.invariant (sym s.starts.ensures ∙ c.before.before.loop-last-test.false) c.ended.ensures
 
-pub open-packets-spec : {M : Type 1} → statement M
-open-packets-spec =
+pub open_packets_spec : {M : Type 1} → statement M
+open_packets_spec =
     tie.close
     (tie.spec
     invariant-loop

@@ -10,12 +10,12 @@ starter-requires : tie.Need-starter-requires
 starter-requires c κs = search rules
 
 -- not in order
-returns : tie.Need-returns
-returns c = rw (eq-eqb _ 1 (sym c.before.starter.ensures ∙ c.if1.true))
+returns : tie.Need-returns-then-starter-eq1
+returns c = rw (eq-eqb _ 1 (sym c.before.starter.ensures ∙ c.if-starter-eq1.true))
 
 -- in order
-returns-2 : tie.Need-returns-2
-returns-2 c = rw (ne_eqb _ 1 (λ q. c.if1.false (c.before.starter.ensures ∙ q)))
+returns-2 : tie.Need-returns
+returns-2 c = rw (ne_eqb _ 1 (λ q. c.if-starter-eq1.false (c.before.starter.ensures ∙ q)))
 
-pub order-wrong-spec : {M : Type 1} → statement M
-order-wrong-spec = tie.close (tie.spec starter-requires returns returns-2)
+pub order_wrong_spec : {M : Type 1} → statement M
+order_wrong_spec = tie.close (tie.spec starter-requires returns returns-2)

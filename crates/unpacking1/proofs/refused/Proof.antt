@@ -13,12 +13,12 @@ refusal-requires : tie.Need-refusal-requires
 refusal-requires c κs = search rules
 
 -- 13
-returns : tie.Need-returns
-returns c = rw (eq-eqb _ 1 (sym c.before.before.starter.ensures ∙ c.before.if1.true)) c.refusal.ensures
+returns : tie.Need-returns-then-starter-eq1
+returns c = rw (eq-eqb _ 1 (sym c.before.before.starter.ensures ∙ c.before.if-starter-eq1.true)) c.refusal.ensures
 
 -- the packet's own
-returns-2 : tie.Need-returns-2
-returns-2 c = rw (ne_eqb _ 1 (λ q. c.if1.false (c.before.starter.ensures ∙ q)))
+returns-2 : tie.Need-returns
+returns-2 c = rw (ne_eqb _ 1 (λ q. c.if-starter-eq1.false (c.before.starter.ensures ∙ q)))
 
-pub refused-spec : {M : Type 1} → statement M
-refused-spec = tie.close (tie.spec starter-requires refusal-requires returns returns-2)
+pub refused_spec : {M : Type 1} → statement M
+refused_spec = tie.close (tie.spec starter-requires refusal-requires returns returns-2)

@@ -5,16 +5,16 @@ use borrow.Author.Rules.{rules}
 use Rattle.unpacking1.proofs.starts.Statement.{statement}
 use Rattle.unpacking1.proofs.starts.Tie as tie
 
-element-copy-out-result : tie.Need-element-copy-out-result
+element-copy-out-result : tie.Need-bounds-us-at
 element-copy-out-result c = search rules
 
 -- a pack
-returns : tie.Need-returns
-returns c = simp (lt-ltb _ _ c.before.if1.true)
+returns : tie.Need-returns-then-at-total
+returns c = simp (lt-ltb _ _ c.before.before.if-at-total.true)
 
 -- none
-returns-2 : tie.Need-returns-2
-returns-2 c = simp (le-ltb _ _ c.if1.false)
+returns-2 : tie.Need-returns
+returns-2 c = simp (le-ltb _ _ c.if-at-total.false)
 
-pub starts-spec : {M : Type 1} → statement M
-starts-spec = tie.close (tie.spec element-copy-out-result returns returns-2)
+pub starts_spec : {M : Type 1} → statement M
+starts_spec = tie.close (tie.spec element-copy-out-result returns returns-2)

@@ -12,49 +12,49 @@ use Rattle.walker.proofs.Laws.{on-next, answer-last}
 use Rattle.walker.proofs.kth.Statement.{statement}
 use Rattle.walker.proofs.kth.Tie as tie
 
-abbrev invariant-loop : tie.invariant-loop
+abbrev invariant-loop : tie.invariant-loop-i
 invariant-loop system string k walked₀ i₀ walked i = (walked ≡ walked_on system string (place_of system string i)) × (i ≤ k)
 
-abbrev decreases-loop : tie.decreases-loop
+abbrev decreases-loop : tie.decreases-loop-i
 decreases-loop system string k walked₀ i₀ walked i = k - i
 
-next-requires : tie.Need-next-requires invariant-loop decreases-loop
+next-requires : tie.Need-next-walked-requires invariant-loop decreases-loop
 next-requires c κs = search rules
 
-loop-holds : tie.Need-loop-init invariant-loop decreases-loop
+loop-holds : tie.Need-loop-i-init invariant-loop decreases-loop
 unfolding place_of
-loop-holds c = (c.next.ensures, search rules)
+loop-holds c = (c.next-walked.ensures, search rules)
 
-returns : tie.Need-returns invariant-loop decreases-loop
+returns : tie.Need-returns-then-walked-eq0 invariant-loop decreases-loop
 unfolding answer
 returns c =
-    let l = c.before.before.before.before.loop in
+    let l = c.before.before.before.before.loop-i in
     let e = ap (λ (w : Walked). w.answer) l.invariant.0 in
-    e ∙ answer-last _ _ l.i _ l.invariant.1 (ap (λ (t : Step). t.length) (sym e) ∙ c.before.if1.true)
+    e ∙ answer-last _ _ l.i _ l.invariant.1 (ap (λ (t : Step). t.length) (sym e) ∙ c.before.if-walked-eq0.true)
 
-next-requires-2 : tie.Need-next-requires-2 invariant-loop decreases-loop
+next-requires-2 : tie.Need-next-walked-requires-in-loop-i invariant-loop decreases-loop
 next-requires-2 c κs = search rules
 
-add-i : tie.Need-overflow-add-i invariant-loop decreases-loop
+add-i : tie.Need-overflow_add-i invariant-loop decreases-loop
 add-i c = search rules
 
-loop-less : tie.Need-loop-smaller invariant-loop decreases-loop
+loop-less : tie.Need-loop-i-smaller invariant-loop decreases-loop
 loop-less c = search rules
 
-loop-again : tie.Need-loop-preserved invariant-loop decreases-loop
+loop-again : tie.Need-loop-i-preserved invariant-loop decreases-loop
 loop-again c =
-    let l = c.before.before.before.before.loop in
-    (c.next2.ensures ∙ ap (walked_on _ _) (on-next _ _ l.i l.walked l.invariant.0), search rules)
+    let l = c.before.before.before.before.loop-i in
+    (c.next-walked-in-loop-i.ensures ∙ ap (walked_on _ _) (on-next _ _ l.i l.walked l.invariant.0), search rules)
 
-returns-2 : tie.Need-returns-2 invariant-loop decreases-loop
+returns-2 : tie.Need-returns invariant-loop decreases-loop
 unfolding answer
 returns-2 c =
-    let l = c.before.before.loop in
+    let l = c.before.before.loop-i in
     let e : l.i ≡ c.before.before.before.before.before.args.k = search rules in
     ap (λ (w : Walked). w.answer) l.invariant.0 ∙ ap (answer _ _) e
 
-pub kth-spec : {M : Type 1} → statement M
-kth-spec =
+pub kth_spec : {M : Type 1} → statement M
+kth_spec =
     tie.close
     (tie.spec
     invariant-loop

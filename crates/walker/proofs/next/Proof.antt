@@ -213,7 +213,7 @@ module _ {M : Type 1} {𝓤 : Ura M} (𝓛 : Logic 𝓤) (at_mem : Memory → SP
           (lends_ref 𝓛 (B κ) (named 0) (a ∷ κ) h l₄ 0) $ await ! tt $ pick ! (λ δ. split ! $
           move ! (2 ∷ 19 ∷ []) $ use2 𝓛 (tokens a ⊛ raw (Rest 𝓛 a half)) (cut a) $ split ! $
           -- [the tokens; the way back; the reference; the lender's part; what the parameters own; room for _7; …; _6; …; room for _5; …; …; _3; …]
-          move ! (0 ∷ 2 ∷ []) $ use2 𝓛 (raw (Stepped.pre (to_step a l₄ δ))) (qed 𝓛 (tokens a ∷ ‵ (Lent a l₄ δ) ∷ []) ∵
+          move ! (0 ∷ 2 ∷ []) $ use2 𝓛 (raw (Stepped.requires (to_step a l₄ δ))) (qed 𝓛 (tokens a ∷ ‵ (Lent a l₄ δ) ∷ []) ∵
           nothing ! $ move ! (2 ∷ 0 ∷ []) $ fjoin ! $ move ! (1 ∷ 0 ∷ []) $ join ! $ frame ! $ done !) $
           calls_at ! (fm_of 𝓤 H 𝓛.laws 𝓣) Stepped known (to_step a l₄ δ) (and_then ! (load ! (from ! (stop !)) (look ! 6 refl)) (no_more !)) (λ u.
           use1 𝓛 (later (some (λ (t : Step). (tokens a ⊛ ‵ ((S.the_row).own_val t (u ∷ [])))
@@ -260,9 +260,9 @@ module _ {M : Type 1} {𝓤 : Ura M} (𝓛 : Logic 𝓤) (at_mem : Memory → SP
         (λ κs qs bounds a g are. via 𝓤 _ (fst∗ 𝓤 _ (emp 𝓤)) (walk κs.0 qs.0
         (record { system = a.0; string = a.1.0; at = a.1.1.0 }) are.0.1 are.1.0 are.1.1.0)))
 
-pub next-spec : {M : Type 1} → stated.statement M
+pub next_spec : {M : Type 1} → stated.statement M
 unfolding code.routine tables_of
-next-spec 𝓤 𝓛 𝓜 𝓡 =
+next_spec 𝓤 𝓛 𝓜 𝓡 =
     entered 𝓤 𝓛.H (triple_of 𝓛 f.signature (f.spec 𝓛 𝓜.mem 𝓡.run))
     (tables 𝓤 𝓛.H 𝓜 𝓡 code.env).C (tables 𝓤 𝓛.H 𝓜 𝓡 code.env).Λ #next code.function (code.unfolded 𝓤 𝓛.H 𝓜 𝓡)
     (next-meets 𝓛 𝓜.mem 𝓡.run (tables_of 𝓤 𝓛.H 𝓜 (tables 𝓤 𝓛.H 𝓜 𝓡 code.env))

@@ -8,46 +8,46 @@ use Rattle.frame.proofs.blocks.four75.Tie as tie
 move75-requires : tie.Need-move75-requires
 move75-requires c κs = search rules
 
-add-move75 : tie.Need-overflow-add-move75
+add-move75 : tie.Need-overflow_add-from
 add-move75 c = search rules
 
-add-move75-2 : tie.Need-overflow-add-move75-2
+add-move75-2 : tie.Need-overflow_add-to
 add-move75-2 c = search rules
 
 move75-requires-2 : tie.Need-move75-requires-2
 move75-requires-2 c κs = search rules
 
-mul-move75 : tie.Need-overflow-mul-move75
+mul-move75 : tie.Need-overflow_mul-fs
 mul-move75 c = search rules
 
-add-move75-3 : tie.Need-overflow-add-move75-3
+add-move75-3 : tie.Need-overflow_add-from-2
 add-move75-3 c = search rules
 
-mul-move75-2 : tie.Need-overflow-mul-move75-2
+mul-move75-2 : tie.Need-overflow_mul-ts
 mul-move75-2 c = search rules
 
-add-move75-4 : tie.Need-overflow-add-move75-4
+add-move75-4 : tie.Need-overflow_add-to-2
 add-move75-4 c = search rules
 
 move75-requires-3 : tie.Need-move75-requires-3
 move75-requires-3 c κs = search rules
 
-mul-move75-3 : tie.Need-overflow-mul-move75-3
+mul-move75-3 : tie.Need-overflow_mul-fs-2
 mul-move75-3 c = search rules
 
-add-move75-5 : tie.Need-overflow-add-move75-5
+add-move75-5 : tie.Need-overflow_add-from-3
 add-move75-5 c = search rules
 
-mul-move75-4 : tie.Need-overflow-mul-move75-4
+mul-move75-4 : tie.Need-overflow_mul-ts-2
 mul-move75-4 c = search rules
 
-add-move75-6 : tie.Need-overflow-add-move75-6
+add-move75-6 : tie.Need-overflow_add-to-3
 add-move75-6 c = search rules
 
 move75-requires-4 : tie.Need-move75-requires-4
 move75-requires-4 c κs = search rules
 
-same_length : tie.Need-same-length
+same_length : tie.Need-shape_of-dst
 same_length c = search rules
 
 returns : tie.Need-returns
@@ -58,11 +58,11 @@ returns c =
     let t = z.before.before.before.before in
     let s = t.before.before.before.before.args in
     four-moved 75 s.from s.fs s.to s.ts s.src.now s.dst.now
-    t.move75.new.1.1.0 z.move752.new.1.1.0 y.move753.new.1.1.0 x.move754.new.1.1.0
-    t.move75.ensures z.move752.ensures y.move753.ensures x.move754.ensures
+    t.move75.new.dst z.move75-2.new.dst y.move75-3.new.dst x.move75-4.new.dst
+    t.move75.ensures z.move75-2.ensures y.move75-3.ensures x.move75-4.ensures
 
-pub four75-spec : {M : Type 1} → statement M
-four75-spec =
+pub four75_spec : {M : Type 1} → statement M
+four75_spec =
     tie.close
     (tie.spec
     move75-requires

@@ -5,31 +5,31 @@ use Rattle.frame.proofs.Moves.{move-part}
 use Rattle.frame.proofs.blocks.move45.Statement.{statement}
 use Rattle.frame.proofs.blocks.move45.Tie as tie
 
-sub-get45 : tie.Need-overflow-sub-get45
+sub-get45 : tie.Need-slice_bounds-get45-count
 sub-get45 c = search rules
 
-part-get45-start : tie.Need-slice-bounds-get45-start
+part-get45-start : tie.Need-slice_bounds-get45-start
 part-get45-start c = search rules
 
-part-get45-end : tie.Need-slice-bounds-get45-end
+part-get45-end : tie.Need-slice_bounds-get45-end
 part-get45-end c = search rules
 
 get45-requires : tie.Need-get45-requires
 get45-requires c κs = search rules
 
-sub-put45 : tie.Need-overflow-sub-put45
+sub-put45 : tie.Need-slice_bounds-put45-count
 sub-put45 c = search rules
 
-part-put45-start : tie.Need-slice-bounds-put45-start
+part-put45-start : tie.Need-slice_bounds-put45-start
 part-put45-start c = search rules
 
-part-put45-end : tie.Need-slice-bounds-put45-end
+part-put45-end : tie.Need-slice_bounds-put45-end
 part-put45-end c = search rules
 
 put45-requires : tie.Need-put45-requires
 put45-requires c κs = search rules
 
-same_length : tie.Need-same-length
+same_length : tie.Need-shape_of-dst
 same_length c = search rules
 
 returns : tie.Need-returns
@@ -37,11 +37,11 @@ returns c =
     let p = c.before.before in
     let g = p.before.before in
     let s = g.before.before.before.before.args in
-    move-part 45 s.from s.to s.src.now s.dst.now g.get45.result p.put45.new.1.0
+    move-part 45 s.from s.to s.src.now s.dst.now g.get45.result p.put45.new.dst
     g.get45.ensures p.put45.ensures
 
-pub move45-spec : {M : Type 1} → statement M
-move45-spec =
+pub move45_spec : {M : Type 1} → statement M
+move45_spec =
     tie.close
     (tie.spec
     sub-get45

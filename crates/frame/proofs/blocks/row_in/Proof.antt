@@ -7,52 +7,52 @@ use Rattle.frame.proofs.Moves.{moved-append}
 use Rattle.frame.proofs.blocks.row_in.Statement.{statement}
 use Rattle.frame.proofs.blocks.row_in.Tie as tie
 
-add-four75 : tie.Need-overflow-add-four75
+add-four75 : tie.Need-overflow_add-to
 add-four75 c = search rules
 
 four75-requires : tie.Need-four75-requires
 four75-requires c κs = search rules
 
-add-four75-2 : tie.Need-overflow-add-four75-2
+add-four75-2 : tie.Need-overflow_add-from
 add-four75-2 c = search rules
 
-add-four75-3 : tie.Need-overflow-add-four75-3
+add-four75-3 : tie.Need-overflow_add-to-2
 add-four75-3 c = search rules
 
 four75-requires-2 : tie.Need-four75-requires-2
 four75-requires-2 c κs = search rules
 
-add-four45 : tie.Need-overflow-add-four45
+add-four45 : tie.Need-overflow_add-from-2
 add-four45 c = search rules
 
-add-four45-2 : tie.Need-overflow-add-four45-2
+add-four45-2 : tie.Need-overflow_add-to-3
 add-four45-2 c = search rules
 
 four45-requires : tie.Need-four45-requires
 four45-requires c κs = search rules
 
-add-four45-3 : tie.Need-overflow-add-four45-3
+add-four45-3 : tie.Need-overflow_add-from-3
 add-four45-3 c = search rules
 
-add-four45-4 : tie.Need-overflow-add-four45-4
+add-four45-4 : tie.Need-overflow_add-to-4
 add-four45-4 c = search rules
 
 four45-requires-2 : tie.Need-four45-requires-2
 four45-requires-2 c κs = search rules
 
-add-four75-4 : tie.Need-overflow-add-four75-4
+add-four75-4 : tie.Need-overflow_add-from-4
 add-four75-4 c = search rules
 
-add-four75-5 : tie.Need-overflow-add-four75-5
+add-four75-5 : tie.Need-overflow_add-to-5
 add-four75-5 c = search rules
 
 four75-requires-3 : tie.Need-four75-requires-3
 four75-requires-3 c κs = search rules
 
-add-four75-6 : tie.Need-overflow-add-four75-6
+add-four75-6 : tie.Need-overflow_add-from-5
 add-four75-6 c = search rules
 
-add-four75-7 : tie.Need-overflow-add-four75-7
+add-four75-7 : tie.Need-overflow_add-to-6
 add-four75-7 c =
     let c₃ = c.before.before.before.before.before.before.before.before.before.before.before in
     let s = c₃.before.before.before.before.before.before.before.before.before.before.before.before in
@@ -61,7 +61,7 @@ add-four75-7 c =
 four75-requires-4 : tie.Need-four75-requires-4
 four75-requires-4 c κs = search rules
 
-same_length : tie.Need-same-length
+same_length : tie.Need-shape_of-area
 same_length c = search rules
 
 returns : tie.Need-returns
@@ -77,17 +77,17 @@ returns c =
       moved-append,
       ← c₁.four75.ensures,
       moved-append,
-      ← c₂.four752.ensures,
+      ← c₂.four75-2.ensures,
       moved-append,
       ← c₃.four45.ensures,
       moved-append,
-      ← c₄.four452.ensures,
+      ← c₄.four45-2.ensures,
       moved-append,
-      ← c₅.four753.ensures,
-    ) c₆.four754.ensures
+      ← c₅.four75-3.ensures,
+    ) c₆.four75-4.ensures
 
-pub row-in-spec : {M : Type 1} → statement M
-row-in-spec =
+pub row_in_spec : {M : Type 1} → statement M
+row_in_spec =
     tie.close
     (tie.spec
     add-four75

@@ -6,5 +6,5 @@ use Rattle.frame.proofs.lines.is_allowed_in_1080.Tie as tie
 returns : tie.Need-returns
 returns c y e = joined-1080 y e _
 
-pub is-allowed-in-1080-spec : {M : Type 1} → statement M
-is-allowed-in-1080-spec = tie.close (tie.spec returns)
+pub is_allowed_in_1080_spec : {M : Type 1} → statement M
+is_allowed_in_1080_spec = tie.close (tie.spec returns)

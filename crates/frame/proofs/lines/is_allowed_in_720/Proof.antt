@@ -6,5 +6,5 @@ use Rattle.frame.proofs.lines.is_allowed_in_720.Tie as tie
 returns : tie.Need-returns
 returns c y e = joined-720 y e _
 
-pub is-allowed-in-720-spec : {M : Type 1} → statement M
-is-allowed-in-720-spec = tie.close (tie.spec returns)
+pub is_allowed_in_720_spec : {M : Type 1} → statement M
+is_allowed_in_720_spec = tie.close (tie.spec returns)

@@ -5,38 +5,38 @@ use Rattle.frame.specs.Lines.{lines_of}
 use Rattle.frame.proofs.lines.lines_of.Statement.{statement}
 use Rattle.frame.proofs.lines.lines_of.Tie as tie
 
-array-write-lines : tie.Need-array-write-lines
+array-write-lines : tie.Need-bounds-lines-0
 array-write-lines c = search rules
 
-array-write-lines-2 : tie.Need-array-write-lines-2
+array-write-lines-2 : tie.Need-bounds-lines-8
 array-write-lines-2 c = search rules
 
-array-write-lines-3 : tie.Need-array-write-lines-3
+array-write-lines-3 : tie.Need-bounds-lines-9
 array-write-lines-3 c = search rules
 
-array-write-lines-4 : tie.Need-array-write-lines-4
+array-write-lines-4 : tie.Need-bounds-lines-17
 array-write-lines-4 c = search rules
 
-returns : tie.Need-returns
+returns : tie.Need-returns-then-last-eq1125
 unfolding lines_of
-returns c = rw (eq-eqb _ 1125 c.if1.true)
+returns c = rw (eq-eqb _ 1125 c.if-last-eq1125.true)
 
-array-write-lines-5 : tie.Need-array-write-lines-5
+array-write-lines-5 : tie.Need-bounds-lines-0-then-last-eq750
 array-write-lines-5 c = search rules
 
-array-write-lines-6 : tie.Need-array-write-lines-6
+array-write-lines-6 : tie.Need-bounds-lines-11
 array-write-lines-6 c = search rules
 
-returns-2 : tie.Need-returns-2
+returns-2 : tie.Need-returns-then-last-eq750
 unfolding lines_of
-returns-2 c = rw (ne_eqb _ 1125 c.before.before.if1.false, eq-eqb _ 750 c.if2.true)
+returns-2 c = rw (ne_eqb _ 1125 c.before.before.if-last-eq1125.false, eq-eqb _ 750 c.if-last-eq750.true)
 
-returns-3 : tie.Need-returns-3
+returns-3 : tie.Need-returns
 unfolding lines_of
-returns-3 c = rw (ne_eqb _ 1125 c.before.before.if1.false, ne_eqb _ 750 c.if2.false)
+returns-3 c = rw (ne_eqb _ 1125 c.before.before.if-last-eq1125.false, ne_eqb _ 750 c.if-last-eq750.false)
 
-pub lines-of-spec : {M : Type 1} → statement M
-lines-of-spec =
+pub lines_of_spec : {M : Type 1} → statement M
+lines_of_spec =
     tie.close
     (tie.spec
     array-write-lines

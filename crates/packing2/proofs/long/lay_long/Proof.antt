@@ -8,54 +8,54 @@ use Rattle.packing2.proofs.LongLaws.{fits-none, fits-over, fits-other, fits_in, 
 use Rattle.packing2.proofs.long.lay_long.Statement.{statement}
 use Rattle.packing2.proofs.long.lay_long.Tie as tie
 
-rows-of-requires : tie.Need-rows-of-requires
+rows-of-requires : tie.Need-rows_of-rows-requires
 rows-of-requires c κs = search rules
 
-returns : tie.Need-returns
+returns : tie.Need-returns-then-rows-eq0
 returns c =
     let d = c.before in
     let z = d.before.before.args in
-    let f = fits-none z.system z.len d.rows_of.result z.area.now d.rows_of.ensures.0 (omega arith) in
+    let f = fits-none z.system z.len d.rows_of-rows.result z.area.now d.rows_of-rows.ensures.0 (omega arith) in
     (sym f, ((λ _. after_kept z.system z.len _ _ f), λ _. refl))
 
-mul-if2 : tie.Need-overflow-mul-if2
+mul-if2 : tie.Need-overflow_mul-rows
 mul-if2 c = search rules
 
-returns-2 : tie.Need-returns-2
+returns-2 : tie.Need-returns-then-rows-len
 returns-2 c =
     let d = c.before.before in
     let z = d.before.before.args in
-    let f = fits-over z.system z.len d.rows_of.result z.area.now d.rows_of.ensures.0 (omega arith) in
+    let f = fits-over z.system z.len d.rows_of-rows.result z.area.now d.rows_of-rows.ensures.0 (omega arith) in
     (sym f, ((λ _. after_kept z.system z.len _ _ f), λ _. refl))
 
-mul-if3 : tie.Need-overflow-mul-if3
+mul-if3 : tie.Need-overflow_mul-rows-2
 mul-if3 c = search rules
 
-returns-3 : tie.Need-returns-3
+returns-3 : tie.Need-returns-then-area-rows
 returns-3 c =
     let d = c.before.before.before in
     let z = d.before.before.args in
-    let f = fits-other z.system z.len d.rows_of.result z.area.now d.rows_of.ensures.0 (λ q. omega arith) in
+    let f = fits-other z.system z.len d.rows_of-rows.result z.area.now d.rows_of-rows.ensures.0 (λ q. omega arith) in
     (sym f, ((λ _. after_kept z.system z.len _ _ f), λ _. refl))
 
-lay-rows-requires : tie.Need-lay-rows-requires
+lay-rows-requires : tie.Need-lay_rows-requires
 lay-rows-requires c κs = search rules
 
-same_length : tie.Need-same-length
+same_length : tie.Need-shape_of-area
 same_length c = search rules
 
-returns-4 : tie.Need-returns-4
+returns-4 : tie.Need-returns
 returns-4 c =
     let l = c.before.before in
     let e = l.before.before in
     let d = e.before.before.before in
     let z = d.before.before.args in
-    let r = d.rows_of in
-    let f = fits_in z.system z.len r.result z.area.now r.ensures.0 e.before.before.if1.false (omega arith) e.if3.false in
-    (sym f, (after-laid z.system z.len r.result z.area.now r.ensures.0 _ _ f l.lay-rows.ensures, λ n. never (cc)))
+    let r = d.rows_of-rows in
+    let f = fits_in z.system z.len r.result z.area.now r.ensures.0 e.before.before.if-rows-eq0.false (omega arith) e.if-area-rows.false in
+    (sym f, (after-laid z.system z.len r.result z.area.now r.ensures.0 _ _ f l.lay_rows.ensures, λ n. never (cc)))
 
-pub lay-long-spec : {M : Type 1} → statement M
-lay-long-spec =
+pub lay_long_spec : {M : Type 1} → statement M
+lay_long_spec =
     tie.close
     (tie.spec
     rows-of-requires

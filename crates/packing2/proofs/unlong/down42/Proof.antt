@@ -14,5 +14,5 @@ put42-requires c κs = search rules
 returns : tie.Need-returns
 returns c = c.put42.ensures ∙ ap (sets _ _) c.before.before.get42.ensures
 
-pub down42-spec : {M : Type 1} → statement M
-down42-spec = tie.close (tie.spec get42-requires put42-requires returns)
+pub down42_spec : {M : Type 1} → statement M
+down42_spec = tie.close (tie.spec get42-requires put42-requires returns)

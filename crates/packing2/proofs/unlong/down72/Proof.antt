@@ -14,5 +14,5 @@ put72-requires c κs = search rules
 returns : tie.Need-returns
 returns c = c.put72.ensures ∙ ap (sets _ _) c.before.before.get72.ensures
 
-pub down72-spec : {M : Type 1} → statement M
-down72-spec = tie.close (tie.spec get72-requires put72-requires returns)
+pub down72_spec : {M : Type 1} → statement M
+down72_spec = tie.close (tie.spec get72-requires put72-requires returns)

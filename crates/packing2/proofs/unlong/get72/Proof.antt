@@ -11,42 +11,42 @@ use Rattle.packing2.proofs.UnlongLaws.{get-turn}
 use Rattle.packing2.proofs.unlong.get72.Statement.{statement}
 use Rattle.packing2.proofs.unlong.get72.Tie as tie
 
-abbrev invariant-loop : tie.invariant-loop
+abbrev invariant-loop : tie.invariant-loop-i
 invariant-loop s from a₀ i₀ a i = (i ≤ 72) × (a ≡ take i (drop from s) ++ drop i a₀)
 
-abbrev decreases-loop : tie.decreases-loop
+abbrev decreases-loop : tie.decreases-loop-i
 decreases-loop s from a₀ i₀ a i = 72 - i
 
-loop-holds : tie.Need-loop-init invariant-loop decreases-loop
+loop-holds : tie.Need-loop-i-init invariant-loop decreases-loop
 loop-holds c = (search rules, refl)
 
-add_a : tie.Need-overflow-add-a invariant-loop decreases-loop
+add_a : tie.Need-overflow_add-a invariant-loop decreases-loop
 add_a c = search rules
 
-shared-slice-read-a : tie.Need-shared-slice-read-a invariant-loop decreases-loop
+shared-slice-read-a : tie.Need-bounds-s-from invariant-loop decreases-loop
 shared-slice-read-a c = search rules
 
-array-write-a : tie.Need-array-write-a invariant-loop decreases-loop
+array-write-a : tie.Need-bounds-a-i invariant-loop decreases-loop
 array-write-a c = search rules
 
-add-i : tie.Need-overflow-add-i invariant-loop decreases-loop
+add-i : tie.Need-overflow_add-i invariant-loop decreases-loop
 add-i c = search rules
 
-loop-less : tie.Need-loop-smaller invariant-loop decreases-loop
+loop-less : tie.Need-loop-i-smaller invariant-loop decreases-loop
 loop-less c = search rules
 
-loop-again : tie.Need-loop-preserved invariant-loop decreases-loop
+loop-again : tie.Need-loop-i-preserved invariant-loop decreases-loop
 loop-again c =
-    let l = c.before.before.loop in
+    let l = c.before.before.loop-i in
     (search rules, get-turn _ l.a _ c.before.before.before.args.from l.i (omega arith) (omega arith) l.invariant.1)
 
 returns : tie.Need-returns invariant-loop decreases-loop
 returns c =
     let z = c.before.before.args in
-    copy-full (replicate 72 0) _ (drop z.from z.s.now) 72 c.before.loop.i c.before.loop.invariant.1 (omega arith) (omega arith)
+    copy-full (replicate 72 0) _ (drop z.from z.s.now) 72 c.before.loop-i.i c.before.loop-i.invariant.1 (omega arith) (omega arith)
 
-pub get72-spec : {M : Type 1} → statement M
-get72-spec =
+pub get72_spec : {M : Type 1} → statement M
+get72_spec =
     tie.close
     (tie.spec
     invariant-loop

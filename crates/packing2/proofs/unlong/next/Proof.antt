@@ -5,14 +5,14 @@ use borrow.Author.Tests.{eq-eqb, ne_eqb}
 use Rattle.packing2.proofs.unlong.next.Statement.{statement}
 use Rattle.packing2.proofs.unlong.next.Tie as tie
 
-returns : tie.Need-returns
+returns : tie.Need-returns-then-k-eq23
 returns c = (rw (eq-eqb c.before.args.k 23 (omega arith)), search rules)
 
-add-result : tie.Need-overflow-add-result
+add-result : tie.Need-overflow_add-result
 add-result c = search rules
 
-returns-2 : tie.Need-returns-2
+returns-2 : tie.Need-returns
 returns-2 c = (rw (ne_eqb c.before.args.k 23 (λ q. omega arith)), search rules)
 
-pub next-spec : {M : Type 1} → statement M
-next-spec = tie.close (tie.spec returns add-result returns-2)
+pub next_spec : {M : Type 1} → statement M
+next_spec = tie.close (tie.spec returns add-result returns-2)

@@ -8,7 +8,7 @@ use Rattle.packing2.proofs.unlong.pull.Tie as tie
 down72-requires : tie.Need-down72-requires
 down72-requires c κs = let e = room-low c.before.before.args.k (omega arith) in omega arith
 
-returns : tie.Need-returns
+returns : tie.Need-returns-then-k-lt8
 returns c =
     let e = room-low c.before.before.before.args.k (omega arith) in
     (sym e, rw e c.down72.ensures)
@@ -18,7 +18,7 @@ down42-requires c κs =
     let e = room-middle c.before.before.before.args.k (omega arith) (omega arith) in
     omega arith
 
-returns-2 : tie.Need-returns-2
+returns-2 : tie.Need-returns-then-k-lt16
 returns-2 c =
     let e = room-middle c.before.before.before.before.args.k (omega arith) (omega arith) in
     (sym e, rw e c.down42.ensures)
@@ -28,12 +28,12 @@ down72-requires-2 c κs =
     let e = room-high c.before.before.before.args.k (omega arith) in
     omega arith
 
-returns-3 : tie.Need-returns-3
+returns-3 : tie.Need-returns
 returns-3 c =
     let e = room-high c.before.before.before.before.args.k (omega arith) in
-    (sym e, rw e c.down722.ensures)
+    (sym e, rw e c.down72-2.ensures)
 
-pub pull-spec : {M : Type 1} → statement M
-pull-spec =
+pub pull_spec : {M : Type 1} → statement M
+pull_spec =
     tie.close
     (tie.spec down72-requires returns down42-requires returns-2 down72-requires-2 returns-3)

@@ -23,8 +23,8 @@ measure-at t = and 1 measure-kinds.ps (is 1 measure-kinds.ps μ-measure t) measu
 abbrev measure-below : ℕ → In 1 measure-kinds.ps
 measure-below t = and 1 measure-kinds.ps (falls 1 measure-kinds.ps ◌<◌ μ-measure t) measure.Pre
 
-pub +measure-spec : {M : Type 1} → statement M
-+measure-spec = close μ-measure λ t. measure-lts.spec (
+pub +measure_spec : {M : Type 1} → statement M
++measure_spec = close μ-measure λ t. measure-lts.spec (
   measured-reads.Asked,
   measured-reads.Learnt,
   wide-reads.Asked,

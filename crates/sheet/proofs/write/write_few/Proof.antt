@@ -11,61 +11,61 @@ use Rattle.sheet.proofs.write.write_few.Statement.{statement}
 use Rattle.sheet.proofs.write.write_few.Tie as tie
 
 -- the words have come back
-module _ (c : tie.After-write-looked-up) where
+module _ (c : tie.After-write_looked_up-sum) where
   abbrev start : tie.Start
   start = c.before.before.before.before
 
   abbrev flagged : List ℕ
   flagged = three_of start.args.out.now 0x000 0x3FF 0x3FF
 
-  long : length (back_of flagged c.write-looked-up.new.1.1.0 (length start.args.bytes.now + 3)) ≡ length start.args.out.now
-  long = few-long start.args.bytes.now start.args.out.now _ start.pre.1.1 c.write-looked-up.ensures.0
+  long : length (back_of flagged c.write_looked_up-sum.new.out (length start.args.bytes.now + 3)) ≡ length start.args.out.now
+  long = few-long start.args.bytes.now start.args.out.now _ start.requires.1.1 c.write_looked_up-sum.ensures.0
 
-add-end : tie.Need-overflow-add-end
+add-end : tie.Need-overflow_add-end
 add-end c = search rules
 
-slice-write-out : tie.Need-slice-write-out
+slice-write-out : tie.Need-bounds-out-0
 slice-write-out c = search rules
 
-slice-write-out-2 : tie.Need-slice-write-out-2
+slice-write-out-2 : tie.Need-bounds-out-1
 slice-write-out-2 c = simp length-set (omega arith)
 
-slice-write-out-3 : tie.Need-slice-write-out-3
+slice-write-out-3 : tie.Need-bounds-out-2
 slice-write-out-3 c = simp length-set (omega arith)
 
-sub-write-looked-up : tie.Need-overflow-sub-write-looked-up
+sub-write-looked-up : tie.Need-slice_bounds-write_looked_up-count
 sub-write-looked-up c = search rules
 
-part-write-looked-up-start : tie.Need-slice-bounds-write-looked-up-start
+part-write-looked-up-start : tie.Need-slice_bounds-write_looked_up-start
 part-write-looked-up-start c = search rules
 
-part-write-looked-up-end : tie.Need-slice-bounds-write-looked-up-end
+part-write-looked-up-end : tie.Need-slice_bounds-write_looked_up-end
 part-write-looked-up-end c = simp length-set (omega arith)
 
-write-looked-up-requires : tie.Need-write-looked-up-requires
+write-looked-up-requires : tie.Need-write_looked_up-sum-requires
 write-looked-up-requires c κs = search rules
 
-check-sum-requires : tie.Need-check-sum-requires
+check-sum-requires : tie.Need-check_sum-requires
 check-sum-requires c κs = search rules
 
-mul-out : tie.Need-overflow-mul-out
+mul-out : tie.Need-offset_bounds-out-end
 mul-out c = search rules
 
-slice-write-out-4 : tie.Need-slice-write-out-4
+slice-write-out-4 : tie.Need-bounds-out-end
 slice-write-out-4 c = let l = long c.before.before.before in omega arith
 
-same_length : tie.Need-same-length
+same_length : tie.Need-shape_of-out
 same_length c = let l = long c.before.before.before in simp length-set (omega arith)
 
 returns : tie.Need-returns
 returns c =
-    let w : tie.After-write-looked-up = c.before.before.before in
+    let w : tie.After-write_looked_up-sum = c.before.before.before in
     let a = start w in
-    few-written a.args.bytes.now a.args.out.now _ a.pre.1.1 w.write-looked-up.ensures.0 w.write-looked-up.result _
-    w.write-looked-up.ensures.1.0 c.check-sum.ensures
+    few-written a.args.bytes.now a.args.out.now _ a.requires.1.1 w.write_looked_up-sum.ensures.0 w.write_looked_up-sum.result _
+    w.write_looked_up-sum.ensures.1.0 c.check_sum.ensures
 
-pub write-few-spec : {M : Type 1} → statement M
-write-few-spec =
+pub write_few_spec : {M : Type 1} → statement M
+write_few_spec =
     tie.close
     (tie.spec
     add-end

@@ -160,7 +160,7 @@ module _ {M : Type 1} {𝓤 : Ura M} (𝓛 : Logic 𝓤) (at_mem : Memory → SP
           (from ! (stop !)) (init ! 7 refl (tt, wt.1.1.0)) $
           move ! (1 ∷ []) $ use1 𝓛 (‵ Own ⊛ ‵ Own) ((LL.copy D (T'.the_copy (α κ')) 𝓛).twice h (mach ∷ [])) $ split ! $
           use1 𝓛 (given (mach ∷ [] ≡ mach ∷ []) (‵ Fields)) (own_open 𝓛 D L vd mach) $ learn ! (λ _.
-          move ! (6 ∷ 0 ∷ []) $ use2 𝓛 (raw (WalkedOn.pre to-on)) (qed 𝓛 (token ∷ ‵ Fields ∷ []) ∵ join ! $ frame ! $ done !) $
+          move ! (6 ∷ 0 ∷ []) $ use2 𝓛 (raw (WalkedOn.requires to-on)) (qed 𝓛 (token ∷ ‵ Fields ∷ []) ∵ join ! $ frame ! $ done !) $
           -- [what `walked_on` asks; what the walker owns; the cell; the open borrow; obs; auth; true; _5; …; _4; …; _3; …; room for _2; …]
           calls_at ! (fm_of 𝓤 H 𝓛.laws 𝓣) WalkedOn known to-on (and_then ! (load ! (from ! (stop !)) (look ! 11 refl))
           (and_then ! (load ! (from ! (stop !)) (look ! 9 refl)) (and_then ! (load ! (from ! (stop !)) (look ! 7 refl)) (no_more !)))) (λ u.
