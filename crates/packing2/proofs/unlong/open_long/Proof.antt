@@ -78,13 +78,13 @@ add-len : tie.Need-overflow_add-len invariant-loop decreases-loop
 add-len c = omega (arith, within c.before.before.before.before.before)
 
 last-requires : tie.Need-last-requires invariant-loop decreases-loop
-last-requires c κs = omega (arith, within c.before.before.before.before.before.before.before)
+last-requires c κs = omega (arith, within c.before.before.before.before.before.before)
 
 returns-2 : tie.Need-returns-then-end-eq0 invariant-loop decreases-loop
 returns-2 c =
-    let d = c.before.before.before.before.before.before.before.before in
+    let d = c.before.before.before.before.before.before.before in
     let p = (l d).before in
-    let f = c.before.before.before.pull-room in
+    let f = c.before.before.pull-room in
     frame-answer _ _ _ p.before.before.rows_of-rows.ensures.0 p.pull_rows-whole.ensures.1
     (turn_last (l d).loop-at.invariant d.before.before.loop-at-test.true (long d)
     f.ensures.0 (omega arith) f.ensures.1 (omega arith) c.last.ensures)
