@@ -1,7 +1,6 @@
 // How large the system lets a file become (C's RLIMIT_FSIZE). A write that begins behind that ends the process, by a signal that std does not hold
 // back; so what has no room is not written, and that is an error of the write. Linux says in text what is needed for it.
-ghost use Rattle.std.specs.Prelude.{◌≡◌, ◌≤◌, length};
-ghost use Rattle.io.specs.Counts.{IsPrefixLen};
+ghost use Rattle.std.specs.Prelude.{◌≤◌};
 
 use super::{open, read_all};
 use file_status::errors::EFBIG;

@@ -1,5 +1,4 @@
 // The system's words for an error.
-ghost use Rattle.std.specs.Prelude.{◌≤◌, length};
 ghost use Rattle.io.specs.Counts.{IsPrefixLen};
 
 use std::fmt::Write;

@@ -79,8 +79,8 @@ returns-2 c =
     let pos = f.before.before.requires.0 in (
       λ o.
           ⊎_elim
-          (λ w. let l = w.taken in too_few eight _ _ pos o f.if-s-lt6.false (omega arith))
-          (λ w. let l = w.1.taken in too_many eight _ _ pos o f.if-s-lt6.false (omega (arith, ltb-true)))
+          (λ w. let l = w.if-samples-lt3.true in too_few eight _ _ pos o f.if-s-lt6.false (omega arith))
+          (λ w. let l = w.if-samples-gt258.true-raw in too_many eight _ _ pos o f.if-s-lt6.false (omega (arith, ltb-true)))
           c.then-samples-lt3.branch-raw,
       λ z. absurd (omega arith),
     )
@@ -110,8 +110,8 @@ returns-4 c =
     let x = c.before.four-count.ensures.0 in (
       λ o.
           ⊎_elim
-          (λ w. let l = w.taken in array-small eight _ _ pos o f.if-s-lt6.false (least b) (most b) g.if-s-lt10.false (omega arith))
-          (λ w. let l = w.1.taken in array-past eight _ _ pos o f.if-s-lt6.false (least b) (most b) g.if-s-lt10.false (omega (arith, ltb-true)))
+          (λ w. let l = w.if-count-samples.true in array-small eight _ _ pos o f.if-s-lt6.false (least b) (most b) g.if-s-lt10.false (omega arith))
+          (λ w. let l = w.if-s-count.true-raw in array-past eight _ _ pos o f.if-s-lt6.false (least b) (most b) g.if-s-lt10.false (omega (arith, ltb-true)))
           c.then-count-samples.branch-raw,
       λ z. absurd (omega arith),
     )

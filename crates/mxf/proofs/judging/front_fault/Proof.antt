@@ -59,8 +59,8 @@ returns-2 c k p q e o =
     let l = c.before.before.if-s-lt2.false in
     let pos = c.before.before.before.before.requires.0 in
     ⊎_elim
-    (λ w. let m = w.taken in line-none k _ _ _ _ pos e o l (omega arith))
-    (λ w. let m = w.2.taken in line-past k _ _ _ _ pos e o l (omega (arith, ltb-true)))
+    (λ w. let m = w.if-line-eq0.true in line-none k _ _ _ _ pos e o l (omega arith))
+    (λ w. let m = w.if-last-line.true-raw in line-past k _ _ _ _ pos e o l (omega (arith, ltb-true)))
     c.then-line-eq0.branch-raw
 
 returns-3 : tie.Need-returns-then-s-lt3
@@ -124,8 +124,8 @@ returns-7 c k p q e o =
     let r = m.before.if-s-wrapping.false in
     let g = w.before.before.if-s-lt3.false in
     ⊎_elim
-    (λ x. colour k _ _ _ _ pos e o l (some d) (within d) g _ w.wrapping.ensures r m.if-s-lt4.false (eqb-true _ _ (not-false _ x.2.left) ∙ q))
-    (λ x. luma k _ _ _ _ pos e o l (some d) (within d) g _ w.wrapping.ensures r m.if-s-lt4.false (x.left ∙ p))
+    (λ x. colour k _ _ _ _ pos e o l (some d) (within d) g _ w.wrapping.ensures r m.if-s-lt4.false (eqb-true _ _ (not-false _ x.if-s-colour.false-raw) ∙ q))
+    (λ x. luma k _ _ _ _ pos e o l (some d) (within d) g _ w.wrapping.ensures r m.if-s-lt4.false (x.if-s-luma.false ∙ p))
     c.else-s-luma.branch-raw
 
 pub front_fault_spec : {M : Type 1} → statement M

@@ -45,7 +45,7 @@ module _ (c : tie.After-four) where
       omega arith
 
   coded : (get_or s 3 0 ≡ 4) ⊎ (get_or s 3 0 ≡ 5)
-  coded = ⊎_elim (λ x. inr (eqb-true _ _ (not-false _ x.2.left))) (λ x. inl x.left) coding.else-s-ne-LUMA.came
+  coded = ⊎_elim (λ x. inr (eqb-true _ _ (not-false _ x.if-s-ne-COLOUR.false-raw))) (λ x. inl x.if-s-ne-LUMA.false) coding.else-s-ne-LUMA.branch-raw
 
   is_whole : Whole eight s
   is_whole =

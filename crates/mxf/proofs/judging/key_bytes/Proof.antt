@@ -26,7 +26,7 @@ loop-holds c = (search rules, search rules, λ o. refl)
 shared-slice-read-if2 : tie.Need-bounds-e-i invariant-loop decreases-loop
 shared-slice-read-if2 c = search rules
 
-array-read-if2 : tie.Need-array-read-if2 invariant-loop decreases-loop
+array-read-if2 : tie.Need-bounds-i invariant-loop decreases-loop
 array-read-if2 c = search rules
 
 returns : tie.Need-returns-then-i-e invariant-loop decreases-loop
@@ -37,8 +37,8 @@ returns c =
       λ o.
           l.invariant.2 o
           ∙ ⊎_elim
-          (λ w. key-missing l.i _ o (omega arith) w.taken)
-          (λ w. key-differs l.i _ o (omega arith) (omega arith) (eqb-false _ _ (not-true _ w.2.taken)))
+          (λ w. key-missing l.i _ o (omega arith) w.if-i-e.true)
+          (λ w. key-differs l.i _ o (omega arith) (omega arith) (eqb-false _ _ (not-true _ w.if-e-i.true-raw)))
           c.then-i-e.branch-raw,
     )
 

@@ -25,7 +25,7 @@ returns : tie.Need-returns-then-fi
 returns c = is_one _ _ c.before.if-system-eq3.true c.if-fi.true
 
 returns-2 : tie.Need-returns
-returns-2 c = ⊎_elim (λ w. is_zero _ _ w.0.taken w.1.left) (λ w. is-other _ _ w.left) c.else-system-eq3.branch-raw
+returns-2 c = ⊎_elim (λ w. is_zero _ _ w.if-system-eq3.true w.if-fi.false) (λ w. is-other _ _ w.if-system-eq3.false) c.else-system-eq3.branch-raw
 
 pub fi_of_spec : {M : Type 1} → statement M
 fi_of_spec = tie.close (tie.spec returns returns-2)

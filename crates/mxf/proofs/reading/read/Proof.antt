@@ -61,8 +61,8 @@ returns-2 : tie.Need-returns-then-j-ne0
 returns-2 c =
     let d = c.before.before in
     let a = d.before.before.before.before.before.before.args in
-    answered a.system a.fi a.element.now a.sheet.now d.judge-j.result a.sheet.now (bytes d.before.before.before)
-    (known-system a.system (judged a.system a.fi a.element.now) a.sheet.now d.judge-j.result a.sheet.now (is_one d.before)
+    answered a.system a.fi a.element.now a.sheet.now d.judge-j.result a.sheet.now (bytes d.before.before.before.before)
+    (known-system a.system (judged a.system a.fi a.element.now) a.sheet.now d.judge-j.result a.sheet.now (is_one d.before.before)
     (refused-before eight a.system a.fi a.element.now a.sheet.now d.judge-j.result (judged-is d) c.if-j-ne0.true))
 
 -- past 19 the head is there
@@ -87,16 +87,16 @@ found c =
     }
 
 sub-allowed : tie.Need-slice_bounds-allowed-count
-sub-allowed c = let h = there c in omega arith
+sub-allowed c = let h = there c.before in omega arith
 
 part-allowed-start : tie.Need-slice_bounds-allowed-start
-part-allowed-start c = let h = there c in omega arith
+part-allowed-start c = let h = there c.before in omega arith
 
 part-allowed-end : tie.Need-slice_bounds-allowed-end
 part-allowed-end c = search rules
 
 allowed-requires : tie.Need-allowed-k-requires
-allowed-requires c κs = found c.before
+allowed-requires c κs = found c.before.before
 
 refusal-requires-2 : tie.Need-refusal-requires-then-k-n
 refusal-requires-2 c κs = search rules
@@ -105,23 +105,23 @@ refusal-requires-2 c κs = search rules
 returns-3 : tie.Need-returns-then-k-n
 returns-3 c =
     let w = c.before.before in
-    let z = w.before.before in
+    let z = w.before.before.before in
     let d = z.before.before in
-    let f = d.before.before.before in
+    let f = d.before.before.before.before in
     let a = f.before.before.before.args in
     let is = sym (last-is a.system f.figures_of-figures.result f.figures_of-figures.ensures) in
     answered a.system a.fi a.element.now a.sheet.now c.refusal-then-k-n.result a.sheet.now (bytes f)
     (known-system a.system (judged a.system a.fi a.element.now) a.sheet.now c.refusal-then-k-n.result a.sheet.now
-    (is_one d.before)
+    (is_one d.before.before)
     (not-allowed eight a.system a.fi a.element.now a.sheet.now d.judge-j.result (judged-is d) z.if-j-ne0.false w.allowed-k.result
     (w.allowed-k.ensures (found z) (system a.system) is) c.before.if-k-n.true c.refusal-then-k-n.result c.refusal-then-k-n.ensures))
 
 written-requires : tie.Need-written-requires
 written-requires c κs =
-    let z = c.before.before.before.before in
+    let z = c.before.before.before.before.before in
     let d = z.before.before in
     let a = d.before.before.before.before.before.before.args in
-    (known-low a.system (is_one d.before), judged-is d, z.if-j-ne0.false)
+    (known-low a.system (is_one d.before.before), judged-is d, z.if-j-ne0.false)
 
 same_length : tie.Need-shape_of-sheet
 same_length c = search rules
@@ -131,14 +131,14 @@ returns-4 : tie.Need-returns
 returns-4 c =
     let v = c.before.before in
     let w = v.before.before.before in
-    let z = w.before.before in
+    let z = w.before.before.before in
     let d = z.before.before in
-    let f = d.before.before.before in
+    let f = d.before.before.before.before in
     let a = f.before.before.before.args in
     let is = sym (last-is a.system f.figures_of-figures.result f.figures_of-figures.ensures) in
     let after = v.written.new.sheet in
     answered a.system a.fi a.element.now a.sheet.now v.written.result after (bytes f)
-    (known-system a.system (judged a.system a.fi a.element.now) a.sheet.now v.written.result after (is_one d.before)
+    (known-system a.system (judged a.system a.fi a.element.now) a.sheet.now v.written.result after (is_one d.before.before)
     (all-allowed eight a.system a.fi a.element.now a.sheet.now d.judge-j.result (judged-is d) z.if-j-ne0.false w.allowed-k.result
     (w.allowed-k.ensures (found z) (system a.system) is) v.before.before.if-k-n.false v.written.result after v.written.ensures))
 

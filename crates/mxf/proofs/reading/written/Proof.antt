@@ -59,7 +59,7 @@ returns-2 c =
     let b = d.before.before.before.before in
     let a = b.args in
     no_room eight a.system a.fi a.e.now a.sheet.now a.j b.requires.1 b.requires.2 d.if-j.false
-    (⊎_elim (λ w. inl w.taken) (λ w. inr (ltb-true (length a.sheet.now) a.j.numbers w.1.taken)) c.before.then-n-packets-gt65535.branch-raw)
+    (⊎_elim (λ w. inl w.if-n-packets-gt65535.true) (λ w. inr (ltb-true (length a.sheet.now) a.j.numbers w.if-sheet-n.true-raw)) c.before.then-n-packets-gt65535.branch-raw)
     c.refusal-then-n-packets-gt65535.result c.refusal-then-n-packets-gt65535.ensures
 
 sub-write-sections : tie.Need-slice_bounds-write_sections-count
@@ -76,7 +76,7 @@ slice-relend-prefix-write-sections c = search rules
 
 slice-aggregate-write-sections : tie.Need-slice_bounds-write_sections-end-then-system-eq3-2
 slice-aggregate-write-sections c =
-    let d = c.before.before in
+    let d = c.before.before.before in
     sym (length-take-le _ d.before.before.before.before.before.before.args.sheet.now (fits d))
 
 write-sections-requires : tie.Need-write_sections-requires
@@ -95,11 +95,11 @@ returns-3 : tie.Need-returns-then-system-eq3
 unfolding limit
 returns-3 c =
     let w = c.before.before in
-    let d = w.before.before.before in
+    let d = w.before.before.before.before in
     let b = d.before.before.before.before.before.before in
     let a = b.args in
     all_read eight a.system a.fi a.e.now a.sheet.now a.j b.requires.1 b.requires.2 d.before.before.if-j.false
-    d.before.then-n-packets-gt65535.false (fits d) w.write_sections.new.out w.write_sections.ensures
+    d.before.if-n-packets-gt65535.false (fits d) w.write_sections.new.out w.write_sections.ensures
 
 sub-write-sections-2 : tie.Need-slice_bounds-write_sections-count-2
 sub-write-sections-2 c = let l = there c.before.before.before.before.before.before.before in omega arith
@@ -115,7 +115,7 @@ slice-relend-prefix-write-sections-2 c = search rules
 
 slice-aggregate-write-sections-2 : tie.Need-slice_bounds-write_sections-end-4
 slice-aggregate-write-sections-2 c =
-    let d = c.before.before in
+    let d = c.before.before.before in
     sym (length-take-le _ d.before.before.before.before.before.before.args.sheet.now (fits d))
 
 write-sections-requires-2 : tie.Need-write_sections-requires-2
@@ -134,11 +134,11 @@ returns-4 : tie.Need-returns
 unfolding limit
 returns-4 c =
     let w = c.before.before in
-    let d = w.before.before.before in
+    let d = w.before.before.before.before in
     let b = d.before.before.before.before.before.before in
     let a = b.args in
     all_read eight a.system a.fi a.e.now a.sheet.now a.j b.requires.1 b.requires.2 d.before.before.if-j.false
-    d.before.then-n-packets-gt65535.false (fits d) w.write_sections-2.new.out w.write_sections-2.ensures
+    d.before.if-n-packets-gt65535.false (fits d) w.write_sections-2.new.out w.write_sections-2.ensures
 
 pub written_spec : {M : Type 1} → statement M
 written_spec =

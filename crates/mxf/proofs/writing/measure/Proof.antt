@@ -122,8 +122,8 @@ loop-again c =
       omega arith,
       omega arith,
       ⊎_elim
-          (λ w. measure-taken so d.loop-k-test.true size is w.0.taken w.2.left w.3 w.4)
-          (λ w. measure-left so d.loop-k-test.true size is w.0.left w.1 w.2)
+          (λ w. measure-taken so d.loop-k-test.true size is w.if-serves.true w.if-ls-k-eq0.false w.packets-is w.bytes-is)
+          (λ w. measure-left so d.loop-k-test.true size is w.if-serves.false w.packets-is w.bytes-is)
           c.if-serves.branch-raw,
     )
 

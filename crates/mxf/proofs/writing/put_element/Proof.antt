@@ -22,7 +22,7 @@ room c =
 
 -- and it keeps its length
 long : (c : tie.After-put_head) → length c.put_head.new.out ≡ length c.before.before.before.before.before.args.out.now
-long c = c.put_head.auto.1.0
+long c = c.put_head.auto.out
 
 fits : (c : tie.After-slice_known-2-1) → 22 ≤ length c.before.before.put_head.new.out
 fits c = let h = long c.before.before in let r = room c.before.before.before.before.before.before.before in omega arith
@@ -54,7 +54,7 @@ same_length c =
     let t = c.before.before.before.before.before.before in
     let o = t.put_head.new.out in
     let r = c.before.before.put_structures in
-    part-kept 22 (length o - 22) o r.new.out r.auto.1.1.1.1.0 ∙ long t
+    part-kept 22 (length o - 22) o r.new.out r.auto.out ∙ long t
 
 returns : tie.Need-returns
 returns c = λ y ps h.

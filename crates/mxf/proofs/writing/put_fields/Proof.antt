@@ -13,31 +13,31 @@ abbrev start1 : tie.After-put_two → tie.Start
 start1 c = c.before.before.before
 
 long1 : (c : tie.After-put_two) → length c.put_two.new.out ≡ length (start1 c).args.out.now
-long1 c = c.put_two.auto.0
+long1 c = c.put_two.auto.out
 
 abbrev start2 : tie.After-put_two-2 → tie.Start
 start2 c = start1 c.before.before.before.before
 
 long2 : (c : tie.After-put_two-2) → length c.put_two-2.new.out ≡ length (start2 c).args.out.now
-long2 c = let l = long1 c.before.before.before.before in c.put_two-2.auto.0 ∙ simp length-set l
+long2 c = let l = long1 c.before.before.before.before in c.put_two-2.auto.out ∙ simp length-set l
 
 abbrev start3 : tie.After-put_two-3 → tie.Start
 start3 c = start2 c.before.before.before.before
 
 long3 : (c : tie.After-put_two-3) → length c.put_two-3.new.out ≡ length (start3 c).args.out.now
-long3 c = c.put_two-3.auto.0 ∙ long2 c.before.before.before.before
+long3 c = c.put_two-3.auto.out ∙ long2 c.before.before.before.before
 
 abbrev start4 : tie.After-put_two-4 → tie.Start
 start4 c = start3 c.before.before.before.before
 
 long4 : (c : tie.After-put_two-4) → length c.put_two-4.new.out ≡ length (start4 c).args.out.now
-long4 c = c.put_two-4.auto.0 ∙ long3 c.before.before.before.before
+long4 c = c.put_two-4.auto.out ∙ long3 c.before.before.before.before
 
 abbrev start5 : tie.After-put_two-5 → tie.Start
 start5 c = start4 c.before.before.before.before
 
 long5 : (c : tie.After-put_two-5) → length c.put_two-5.new.out ≡ length (start5 c).args.out.now
-long5 c = c.put_two-5.auto.0 ∙ long4 c.before.before.before.before
+long5 c = c.put_two-5.auto.out ∙ long4 c.before.before.before.before
 
 put-two-requires : tie.Need-put_two-requires
 put-two-requires c κs = search rules
@@ -64,7 +64,7 @@ put-two-requires-6 : tie.Need-put_two-requires-6
 put-two-requires-6 c κs = let l = long5 c.before.before.before in omega arith
 
 same_length : tie.Need-shape_of-out
-same_length c = let t = c.before.before in t.put_two-6.auto.0 ∙ long5 t.before.before.before.before
+same_length c = let t = c.before.before in t.put_two-6.auto.out ∙ long5 t.before.before.before.before
 
 returns : tie.Need-returns
 returns c =
@@ -76,7 +76,7 @@ returns c =
     let t1 = t2.before.before.before.before in
     let s = start1 t1 in
     let a = s.args in
-    fields-put a.line.0 a.wrapping a.coding a.samples a.array a.out.now s.fits.array.fits t1.put_two.ensures
+    fields-put a.line.0 a.wrapping a.coding a.samples a.array a.out.now s.ranges.array.fits t1.put_two.ensures
     t2.put_two-2.ensures t3.put_two-3.ensures t4.put_two-4.ensures t5.put_two-5.ensures t6.put_two-6.ensures
 
 pub put_fields_spec : {M : Type 1} → statement M

@@ -14,13 +14,13 @@ abbrev start1 : tie.After-put_key → tie.Start
 start1 c = c.before.before.before
 
 long1 : (c : tie.After-put_key) → length c.put_key.new.out ≡ length (start1 c).args.out.now
-long1 c = c.put_key.auto.0
+long1 c = c.put_key.auto.out
 
 abbrev start2 : tie.After-put_two → tie.Start
 start2 c = start1 c.before.before.before.before
 
 long2 : (c : tie.After-put_two) → length c.put_two.new.out ≡ length (start2 c).args.out.now
-long2 c = let l = long1 c.before.before.before.before in c.put_two.auto.0 ∙ simp length-set l
+long2 c = let l = long1 c.before.before.before.before in c.put_two.auto.out ∙ simp length-set l
 
 sub-value : tie.Need-overflow_sub-value
 sub-value c = search rules
@@ -47,7 +47,7 @@ put-two-requires-2 : tie.Need-put_two-requires-2
 put-two-requires-2 c κs = let l = long2 c.before.before.before in omega arith
 
 same_length : tie.Need-shape_of-out
-same_length c = c.before.before.put_two-2.auto.0 ∙ long2 c.before.before.before.before.before.before
+same_length c = c.before.before.put_two-2.auto.out ∙ long2 c.before.before.before.before.before.before
 
 returns : tie.Need-returns
 returns c =

@@ -20,7 +20,7 @@ decreases-loop out₀ i₀ out i = 16 - i
 loop-holds : tie.Need-loop-i-init invariant-loop decreases-loop
 loop-holds c = (omega arith, refl, refl)
 
-array-read-out : tie.Need-array-read-out invariant-loop decreases-loop
+array-read-out : tie.Need-bounds-i invariant-loop decreases-loop
 array-read-out c = search rules
 
 slice-write-out : tie.Need-bounds-out-i invariant-loop decreases-loop

@@ -157,14 +157,14 @@ loop-again c =
       omega arith,
       omega arith,
       ⊎_elim
-          (λ v. structures-kept so v.4.last.1.1.1.1.0 v.7 v.8 v.4.kept.1.1.1.1.0 ∙ d.before.loop-k.invariant.2)
-          (λ v. ap length v.1 ∙ d.before.loop-k.invariant.2)
+          (λ v. structures-kept so v.put_structure.new.out v.out-is v.o-is v.put_structure.auto.out ∙ d.before.loop-k.invariant.2)
+          (λ v. ap length v.out-is ∙ d.before.loop-k.invariant.2)
           c.if-serves.branch-raw,
       ⊎_elim
           (λ v.
-          structures-taken so d.loop-k-test.true size is v.0.taken (omega arith)
-          (structure-next _ d.before.loop-k.k size w refl v.4.ensures) v.7 v.8 (omega arith) v.4.kept.1.1.1.1.0)
-          (λ v. structures-left so d.loop-k-test.true size is v.0.left (omega arith) v.1 v.2)
+          structures-taken so d.loop-k-test.true size is v.if-serves.true (omega arith)
+          (structure-next _ d.before.loop-k.k size w refl v.put_structure.ensures) v.out-is v.o-is (omega arith) v.put_structure.auto.out)
+          (λ v. structures-left so d.loop-k-test.true size is v.if-serves.false (omega arith) v.out-is v.o-is)
           c.if-serves.branch-raw,
     )
 
