@@ -26,7 +26,7 @@ returns c =
     let within = read-within _ _ _ _ _ d.ensures in
     let s = d.new.sheet in
     let file = e.new.file in
-    let same = d.auto.1.1.0 in
+    let same = d.auto.sheet in
     let w = encoded d.result.numbers e.result _ start.args.s.now s file within same start.requires e.ensures in
     ((d.ensures, w.0), w.1)
 
