@@ -20,57 +20,37 @@ fn asks_for_help(rt: &HostRuntime, count: usize) -> bool {
     text::is(&word[..n], b"--help")
 }
 
-fn is_option(rt: &HostRuntime, i: usize, option: &[u8]) -> bool {
+fn is_ten(rt: &HostRuntime, i: usize) -> bool {
     let mut word = io::buffer();
     let n = arguments::word(rt, i, &mut word);
-    text::is(&word[..n], option)
+    text::is(&word[..n], b"--ten")
 }
 
-// How a command that has an option is called.
-#[derive(Drop)]
-enum Form {
-    Plain,
-    Option,
-    Wrong,
-}
-
-// An option stands behind all other arguments, of which the last is named here. In place of that one it is refused, so that no file gets that name
-// where one was forgotten.
-fn form_of(rt: &HostRuntime, count: usize, last: usize, behind: usize, option: &[u8]) -> Form {
-    if is_option(rt, last, option) {
-        return Form::Wrong;
-    }
-    if count == behind {
-        return Form::Plain;
-    }
-    if is_option(rt, behind, option) {
-        return Form::Option;
-    }
-    Form::Wrong
-}
-
-fn lay_sheet(rt: &HostRuntime, count: usize) -> i32 {
-    match form_of(rt, count, 4, 5, b"--eight") {
-        Form::Plain => lay::run(rt, false),
-        Form::Option => lay::run(rt, true),
-        Form::Wrong => names::say_usage(rt, Command::Lay),
-    }
-}
-
+// `--ten` stands behind all other arguments. In place of the last of them it is refused, so that no file gets that name where one was forgotten.
 fn write_element(rt: &HostRuntime, count: usize) -> i32 {
-    match form_of(rt, count, 4, 5, b"--ten") {
-        Form::Plain => mxf_write::run(rt, false),
-        Form::Option => mxf_write::run(rt, true),
-        Form::Wrong => names::say_usage(rt, Command::MxfWrite),
+    if is_ten(rt, 4) {
+        return names::say_usage(rt, Command::MxfWrite);
     }
+    if count == 5 {
+        return mxf_write::run(rt, false);
+    }
+    if is_ten(rt, 5) {
+        return mxf_write::run(rt, true);
+    }
+    names::say_usage(rt, Command::MxfWrite)
 }
 
 fn read_element(rt: &HostRuntime, count: usize) -> i32 {
-    match form_of(rt, count, 5, 6, b"--ten") {
-        Form::Plain => mxf_read::run(rt, false),
-        Form::Option => mxf_read::run(rt, true),
-        Form::Wrong => names::say_usage(rt, Command::MxfRead),
+    if is_ten(rt, 5) {
+        return names::say_usage(rt, Command::MxfRead);
     }
+    if count == 6 {
+        return mxf_read::run(rt, false);
+    }
+    if is_ten(rt, 6) {
+        return mxf_read::run(rt, true);
+    }
+    names::say_usage(rt, Command::MxfRead)
 }
 
 fn run(rt: &HostRuntime, c: Command, name: &[u8], count: usize) -> i32 {
@@ -79,7 +59,7 @@ fn run(rt: &HostRuntime, c: Command, name: &[u8], count: usize) -> i32 {
     }
     match c {
         Command::List => list::run(rt, count),
-        Command::Lay => lay_sheet(rt, count),
+        Command::Lay => lay::run(rt),
         Command::Read => read::run(rt),
         Command::MxfWrite => write_element(rt, count),
         Command::MxfRead => read_element(rt, count),

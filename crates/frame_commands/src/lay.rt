@@ -1,5 +1,5 @@
-// vanc lay PACKING SHEET AREA [--eight]: lays the packets of a sheet file into the area that is in a file. Both are read whole, the area is replaced
-// whole, and only when the sheet is laid.
+// vanc lay PACKING SHEET AREA: lays the packets of a sheet file into the area that is in a file. Both are read whole, the area is replaced whole, and
+// only when the sheet is laid.
 use console::arguments::NOT_A_NUMBER;
 use console::ending::{DONE, FAILED};
 use console::{arguments, ending};
@@ -7,20 +7,6 @@ use file_status::Known;
 use frame::Hd1080x50i;
 use rules::Laid;
 use sheet_file::{LONGEST, NUMBERS};
-
-// Within the eight-bit profile (document 02, A14), or any packets.
-fn lay_file(
-    eight: bool,
-    file: &[u8],
-    packing: u64,
-    s: &mut [u16; NUMBERS],
-    bytes: &mut [u8],
-) -> Laid {
-    if eight {
-        return file_codec::lay_file_eight(file, packing, s, bytes);
-    }
-    file_codec::lay_file(file, packing, s, bytes)
-}
 
 fn refuse(
     rt: &HostRuntime,
@@ -41,7 +27,6 @@ fn refuse(
 
 fn lay_and_replace(
     rt: &HostRuntime,
-    eight: bool,
     packing: u64,
     sheet: &[u8],
     file: &[u8],
@@ -51,7 +36,7 @@ fn lay_and_replace(
     bytes: &mut [u8],
 ) -> i32 {
     let mut s = [0u16; NUMBERS];
-    let r = lay_file(eight, file, packing, &mut s, bytes);
+    let r = file_codec::lay_file(file, packing, &mut s, bytes);
     if r.number != 0 {
         return refuse(rt, r, sheet, file, &s, area);
     }
@@ -64,7 +49,7 @@ fn lay_and_replace(
 }
 
 // One byte more than the longest sheet file and the longest area is read, so that a longer file is seen to be longer.
-fn lay_files(rt: &HostRuntime, eight: bool, packing: u64, sheet: &[u8], area: &[u8]) -> i32 {
+fn lay_files(rt: &HostRuntime, packing: u64, sheet: &[u8], area: &[u8]) -> i32 {
     let mut path = io::buffer();
     let mut file = [0u8; LONGEST + 1];
     let j = files::begin(rt, sheet, area, &mut path, &mut file);
@@ -82,7 +67,6 @@ fn lay_files(rt: &HostRuntime, eight: bool, packing: u64, sheet: &[u8], area: &[
     let is = j.is;
     lay_and_replace(
         rt,
-        eight,
         packing,
         sheet,
         &file[..n],
@@ -93,7 +77,7 @@ fn lay_files(rt: &HostRuntime, eight: bool, packing: u64, sheet: &[u8], area: &[
     )
 }
 
-pub fn run(rt: &HostRuntime, eight: bool) -> i32 {
+pub fn run(rt: &HostRuntime) -> i32 {
     let packing = arguments::number(rt, 2, b"PACKING: ");
     let mut sheet = io::buffer();
     let n = arguments::path(rt, 3, b"SHEET", &mut sheet);
@@ -102,5 +86,5 @@ pub fn run(rt: &HostRuntime, eight: bool) -> i32 {
     if packing == NOT_A_NUMBER || n == 0 || m == 0 {
         return FAILED;
     }
-    lay_files(rt, eight, packing, &sheet[..n], &area[..m])
+    lay_files(rt, packing, &sheet[..n], &area[..m])
 }

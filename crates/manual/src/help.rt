@@ -22,7 +22,6 @@ const OVERVIEW: &[u8] =
     \x20 vanc help NAME, vanc NAME --help         says more of a command\n\
     \x20 vanc help refusals                       says the numbers of refusals in words\n\
     \x20 vanc --version                           says the version\n\n\
-    With --eight behind its arguments, lay takes only packets of the eight-bit profile.\n\
     With --ten behind its arguments, mxf-write or mxf-read takes samples of ten bits: packets as\n\
     they are found, damaged ones too.\n\
     A refusal prints its number and its place (refused 14 at 1). In list, lay and mxf-write the\n\
@@ -46,7 +45,7 @@ pub fn say_overview(rt: &HostRuntime) -> i32 {
 pub fn version(rt: &HostRuntime) -> i32 {
     print(
         rt,
-        b"vanc 0.7.0, proved with rattle-kit-5b-plain logic 097e4c862dff5811\n",
+        b"vanc 0.6.0, proved with rattle-kit-5b-plain logic 097e4c862dff5811\n",
     )
 }
 
@@ -65,12 +64,10 @@ fn page_of_list(rt: &HostRuntime) -> i32 {
 fn page_of_lay(rt: &HostRuntime) -> i32 {
     print(
         rt,
-        b"usage: vanc lay PACKING SHEET AREA [--eight]\n\n\
+        b"usage: vanc lay PACKING SHEET AREA\n\n\
         Lays the packets of the sheet file SHEET into the area in the file AREA, which is replaced:\n\
         the VAUX blocks of one frame, 9600 bytes, or 11520 in 1080/50i.\n\
-        PACKING is 1 (packs of five) or 2 (long packs).\n\
-        --eight: only packets of the eight-bit profile (SMPTE RP 291-2, 6.5.1) are laid, as they are\n\
-        without it: DID 04h, 08h or 0Ch, SDID a multiple of four and not 00h. Another packet is 29.\n\n\
+        PACKING is 1 (packs of five) or 2 (long packs).\n\n\
         Prints: laid packs N bytes N\n",
     )
 }
@@ -129,13 +126,10 @@ pub fn of(rt: &HostRuntime, c: Command, name: &[u8]) -> i32 {
 
 // ---- the numbers of refusals
 
-// A number in two columns, and its words; nothing where no call gives it.
+// A number in two columns, and its words.
 fn put_number(out: &mut [u8], at: usize, number: u64) -> usize
     ensures { IsPrefixLen result out.new }
 {
-    if !refusals::is_given(number) {
-        return text::put_text(out, at, b"");
-    }
     let a = put_column(out, at, number);
     let b = text::put_number(out, a, number);
     let c = text::put_text(out, b, b"  ");

@@ -46,7 +46,7 @@ pub fn named(name: &[u8]) -> Command {
 pub fn takes(c: Command, count: usize) -> bool {
     match c {
         Command::List => count == 2 || count == 3,
-        Command::Lay => count == 5 || count == 6,
+        Command::Lay => count == 5,
         Command::Read => count == 5,
         Command::MxfWrite => count == 5 || count == 6,
         Command::MxfRead => count == 6 || count == 7,
@@ -62,7 +62,7 @@ pub fn say_usage(rt: &HostRuntime, c: Command) -> i32 {
     let how = b"usage: vanc ";
     match c {
         Command::List => files::say(rt, how, b"list [SHEET]"),
-        Command::Lay => files::say(rt, how, b"lay PACKING SHEET AREA [--eight]"),
+        Command::Lay => files::say(rt, how, b"lay PACKING SHEET AREA"),
         Command::Read => files::say(rt, how, b"read SYSTEM AREA SHEET"),
         Command::MxfWrite => files::say(rt, how, b"mxf-write FI SHEET ELEMENT [--ten]"),
         Command::MxfRead => files::say(rt, how, b"mxf-read SYSTEM FI ELEMENT SHEET [--ten]"),
