@@ -11,41 +11,41 @@ use Rattle.found.proofs.Laws.{each-ten}
 use Rattle.found.proofs.are_ten.Statement.{statement}
 use Rattle.found.proofs.are_ten.Tie as tie
 
-abbrev invariant-loop : tie.invariant-loop
+abbrev invariant-loop : tie.invariant-loop-i
 invariant-loop ws i₀ ok₀ i ok = (ok && are_ten (drop i ws)) ≡ are_ten ws
 
-abbrev decreases-loop : tie.decreases-loop
+abbrev decreases-loop : tie.decreases-loop-i
 decreases-loop ws i₀ ok₀ i ok = length ws - i
 
-loop-holds : tie.Need-loop-init invariant-loop decreases-loop
+loop-holds : tie.Need-loop-i-init invariant-loop decreases-loop
 loop-holds c = refl
 
-mul_ok : tie.Need-overflow-mul-ok invariant-loop decreases-loop
+mul_ok : tie.Need-offset_bounds-ws-i invariant-loop decreases-loop
 mul_ok c = search rules
 
-shared-slice-read-ok : tie.Need-shared-slice-read-ok invariant-loop decreases-loop
+shared-slice-read-ok : tie.Need-bounds-ws-i invariant-loop decreases-loop
 shared-slice-read-ok c = search rules
 
-add-i : tie.Need-overflow-add-i invariant-loop decreases-loop
+add-i : tie.Need-overflow_add-i invariant-loop decreases-loop
 add-i c = search rules
 
-loop-less : tie.Need-loop-smaller invariant-loop decreases-loop
+loop-less : tie.Need-loop-i-smaller invariant-loop decreases-loop
 loop-less c = search rules
 
-loop-again : tie.Need-loop-preserved invariant-loop decreases-loop
+loop-again : tie.Need-loop-i-preserved invariant-loop decreases-loop
 loop-again c =
     let d = c.before.before in
     let ws = d.before.args.ws.now in
-    each_next is_ten are_ten ten_before each-ten d.loop.ok d.loop.i ws c.before.loop-test.true ∙ d.loop.invariant
+    each_next is_ten are_ten ten_before each-ten d.loop-i.ok d.loop-i.i ws c.before.loop-i-test.true ∙ d.loop-i.invariant
 
 returns : tie.Need-returns invariant-loop decreases-loop
 returns c =
     let d = c.before in
     let ws = d.before.args.ws.now in
-    sym (each-end is_ten are_ten ten_before each-ten d.loop.ok d.loop.i ws c.loop-test.false) ∙ d.loop.invariant
+    sym (each-end is_ten are_ten ten_before each-ten d.loop-i.ok d.loop-i.i ws c.loop-i-test.false) ∙ d.loop-i.invariant
 
-pub are-ten-spec : {M : Type 1} → statement M
-are-ten-spec =
+pub are_ten_spec : {M : Type 1} → statement M
+are_ten_spec =
     tie.close
     (tie.spec
     invariant-loop

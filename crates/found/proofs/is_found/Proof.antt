@@ -13,51 +13,51 @@ use Rattle.found.proofs.is_found.Statement.{statement}
 use Rattle.found.proofs.is_found.Tie as tie
 
 -- the flag stands in front
-module _ (c : tie.Else1) where
+module _ (c : tie.Else-not-is_flagged) where
   abbrev ws : List ℕ
   ws = c.before.before.before.args.ws.now
 
   flag : unflagged ws ≡ false
-  flag = not-true _ (sym c.before.is-flagged.ensures ∙ not-false _ c.if1.false)
+  flag = not-true _ (sym c.before.is_flagged.ensures ∙ not-false _ c.if-not-is_flagged.false-raw)
 
   long : 7 ≤ length ws
   long = seven-words ws flag
 
-is-flagged-requires : tie.Need-is-flagged-requires
+is-flagged-requires : tie.Need-is_flagged-requires
 is-flagged-requires c κs = search rules
 
-returns : tie.Need-returns
-returns c = not-fine 7 _ (omega arith) (fault-flag _ (not-false _ (sym c.before.is-flagged.ensures ∙ not-true _ c.if1.true)))
+returns : tie.Need-returns-then-not-is_flagged
+returns c = not-fine 7 _ (omega arith) (fault-flag _ (not-false _ (sym c.before.is_flagged.ensures ∙ not-true _ c.if-not-is_flagged.true-raw)))
 
-shared-slice-read-size-by : tie.Need-shared-slice-read-size-by
+shared-slice-read-size-by : tie.Need-bounds-ws-5
 shared-slice-read-size-by c = let l = long c.before in omega arith
 
-size-by-requires : tie.Need-size-by-requires
+size-by-requires : tie.Need-size_by-end-requires
 size-by-requires c κs = search rules
 
-returns-2 : tie.Need-returns-2
-returns-2 c = let f : tie.Else1 = c.before.before.before in not-whole (ws f) (omega arith)
+returns-2 : tie.Need-returns-then-ws-end
+returns-2 c = let f : tie.Else-not-is_flagged = c.before.before.before in not-whole (ws f) (omega arith)
 
-sub-are-ten : tie.Need-overflow-sub-are-ten
+sub-are-ten : tie.Need-slice_bounds-are_ten-count
 sub-are-ten c = search rules
 
-part-are-ten-start : tie.Need-slice-bounds-are-ten-start
+part-are-ten-start : tie.Need-slice_bounds-are_ten-start
 part-are-ten-start c = search rules
 
-part-are-ten-end : tie.Need-slice-bounds-are-ten-end
+part-are-ten-end : tie.Need-slice_bounds-are_ten-end
 part-are-ten-end c = search rules
 
-are-ten-requires : tie.Need-are-ten-requires
+are-ten-requires : tie.Need-are_ten-requires
 are-ten-requires c κs = search rules
 
-returns-3 : tie.Need-returns-3
+returns-3 : tie.Need-returns
 returns-3 c =
-    let d : tie.After-size-by = c.before.before.before in
-    let f : tie.Else1 = d.before.before in
-    c.are-ten.ensures ∙ one-test (ws f) (flag f) (omega arith) (d.size-by.result - 3) (omega arith)
+    let d : tie.After-size_by-end = c.before.before.before in
+    let f : tie.Else-not-is_flagged = d.before.before in
+    c.are_ten.ensures ∙ one-test (ws f) (flag f) (omega arith) (d.size_by-end.result - 3) (omega arith)
 
-pub is-found-spec : {M : Type 1} → statement M
-is-found-spec =
+pub is_found_spec : {M : Type 1} → statement M
+is_found_spec =
     tie.close
     (tie.spec
     is-flagged-requires

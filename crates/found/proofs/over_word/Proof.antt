@@ -11,46 +11,46 @@ use Rattle.found.proofs.Laws.{each-ten}
 use Rattle.found.proofs.over_word.Statement.{statement}
 use Rattle.found.proofs.over_word.Tie as tie
 
-abbrev invariant-loop : tie.invariant-loop
+abbrev invariant-loop : tie.invariant-loop-i
 invariant-loop ws i₀ i = i + ten_before (drop i ws) ≡ 3 + ten_before (drop 3 ws)
 
-abbrev decreases-loop : tie.decreases-loop
+abbrev decreases-loop : tie.decreases-loop-i
 decreases-loop ws i₀ i = length ws - i
 
-loop-holds : tie.Need-loop-init invariant-loop decreases-loop
+loop-holds : tie.Need-loop-i-init invariant-loop decreases-loop
 loop-holds c = refl
 
-mul-if1 : tie.Need-overflow-mul-if1 invariant-loop decreases-loop
+mul-if1 : tie.Need-offset_bounds-ws-i invariant-loop decreases-loop
 mul-if1 c = search rules
 
-shared-slice-read-if1 : tie.Need-shared-slice-read-if1 invariant-loop decreases-loop
+shared-slice-read-if1 : tie.Need-bounds-ws-i invariant-loop decreases-loop
 shared-slice-read-if1 c = search rules
 
-returns : tie.Need-returns invariant-loop decreases-loop
+returns : tie.Need-returns-then-ws-i-gt1023 invariant-loop decreases-loop
 returns c =
     let d = c.before.before.before in
     let ws = d.before.args.ws.now in
-    search-here is_ten are_ten ten_before each-ten d.loop.i ws c.before.before.loop-test.true (lt-leb _ 0x3FF c.if1.true) ∙ d.loop.invariant
+    search-here is_ten are_ten ten_before each-ten d.loop-i.i ws c.before.before.loop-i-test.true (lt-leb _ 0x3FF c.if-ws-i-gt1023.true) ∙ d.loop-i.invariant
 
-add-i : tie.Need-overflow-add-i invariant-loop decreases-loop
+add-i : tie.Need-overflow_add-i invariant-loop decreases-loop
 add-i c = search rules
 
-loop-less : tie.Need-loop-smaller invariant-loop decreases-loop
+loop-less : tie.Need-loop-i-smaller invariant-loop decreases-loop
 loop-less c = search rules
 
-loop-again : tie.Need-loop-preserved invariant-loop decreases-loop
+loop-again : tie.Need-loop-i-preserved invariant-loop decreases-loop
 loop-again c =
     let d = c.before.before.before in
     let ws = d.before.args.ws.now in
-    search-next is_ten are_ten ten_before each-ten d.loop.i ws c.before.before.loop-test.true (le-leb _ 0x3FF c.if1.false) ∙ d.loop.invariant
+    search-next is_ten are_ten ten_before each-ten d.loop-i.i ws c.before.before.loop-i-test.true (le-leb _ 0x3FF c.if-ws-i-gt1023.false) ∙ d.loop-i.invariant
 
-returns-2 : tie.Need-returns-2 invariant-loop decreases-loop
+returns-2 : tie.Need-returns invariant-loop decreases-loop
 returns-2 c =
     let d = c.before in
-    search-end is_ten are_ten ten_before each-ten d.loop.i d.before.args.ws.now c.loop-test.false ∙ d.loop.invariant
+    search-end is_ten are_ten ten_before each-ten d.loop-i.i d.before.args.ws.now c.loop-i-test.false ∙ d.loop-i.invariant
 
-pub over-word-spec : {M : Type 1} → statement M
-over-word-spec =
+pub over_word_spec : {M : Type 1} → statement M
+over_word_spec =
     tie.close
     (tie.spec
     invariant-loop

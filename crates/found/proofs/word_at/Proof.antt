@@ -5,19 +5,19 @@ use Rattle.rules.specs.Found.{found_word_at}
 use Rattle.found.proofs.word_at.Statement.{statement}
 use Rattle.found.proofs.word_at.Tie as tie
 
-over-word-requires : tie.Need-over-word-requires
+over-word-requires : tie.Need-over_word-requires
 over-word-requires c κs = search rules
 
-returns : tie.Need-returns
+returns : tie.Need-returns-then-number-eq8
 unfolding found_word_at
-returns c = rw (eq-eqb _ 8 c.before.if1.true) c.over_word.ensures
+returns c = rw (eq-eqb _ 8 c.before.if-number-eq8.true) c.over_word.ensures
 
-word-at-requires : tie.Need-word-at-requires
+word-at-requires : tie.Need-word_at-requires
 word-at-requires c κs = search rules
 
-returns-2 : tie.Need-returns-2
+returns-2 : tie.Need-returns
 unfolding found_word_at
-returns-2 c = rw (ne_eqb _ 8 c.before.if1.false) c.word_at.ensures
+returns-2 c = rw (ne_eqb _ 8 c.before.if-number-eq8.false) c.word_at.ensures
 
-pub word-at-spec : {M : Type 1} → statement M
-word-at-spec = tie.close (tie.spec over-word-requires returns word-at-requires returns-2)
+pub word_at_spec : {M : Type 1} → statement M
+word_at_spec = tie.close (tie.spec over-word-requires returns word-at-requires returns-2)

@@ -14,11 +14,11 @@ is-interlaced : (sys : ℕ) → (sys ≡ 3 → ⊥) → 1 ≡ wrappingOf sys
 unfolding wrappingOf progressive
 is-interlaced sys h = rw (ne_eqb sys 3 h)
 
-returns : tie.Need-returns
-returns c = is-progressive _ c.if1.true
+returns : tie.Need-returns-then-system-eq3
+returns c = is-progressive _ c.if-system-eq3.true
 
-returns-2 : tie.Need-returns-2
-returns-2 c = is-interlaced _ c.if1.false
+returns-2 : tie.Need-returns
+returns-2 c = is-interlaced _ c.if-system-eq3.false
 
-pub wrapping-spec : {M : Type 1} → statement M
-wrapping-spec = tie.close (tie.spec returns returns-2)
+pub wrapping_spec : {M : Type 1} → statement M
+wrapping_spec = tie.close (tie.spec returns returns-2)

@@ -12,79 +12,79 @@ use Rattle.packing1.proofs.Laws.{carriers-turn}
 use Rattle.packing1.proofs.lay_carriers.Statement.{statement}
 use Rattle.packing1.proofs.lay_carriers.Tie as tie
 
-abbrev invariant-loop : tie.invariant-loop
+abbrev invariant-loop : tie.invariant-loop-i
 invariant-loop ws full us₀ at i₀ us i = (i ≤ full) × (us ≡ sets us₀ at (flat (carriers i (map low ws))))
 
-abbrev decreases-loop : tie.decreases-loop
+abbrev decreases-loop : tie.decreases-loop-i
 decreases-loop ws full us₀ at i₀ us i = full - i
 
-loop-holds : tie.Need-loop-init invariant-loop decreases-loop
+loop-holds : tie.Need-loop-i-init invariant-loop decreases-loop
 loop-holds c = (omega arith, refl)
 
-mul-f : tie.Need-overflow-mul-f invariant-loop decreases-loop
+mul-f : tie.Need-overflow_mul-f invariant-loop decreases-loop
 mul-f c = search rules
 
-mul-put-five : tie.Need-overflow-mul-put-five invariant-loop decreases-loop
+mul-put-five : tie.Need-overflow_mul-i invariant-loop decreases-loop
 mul-put-five c = search rules
 
-add-put-five : tie.Need-overflow-add-put-five invariant-loop decreases-loop
+add-put-five : tie.Need-overflow_add-at invariant-loop decreases-loop
 add-put-five c = search rules
 
-mul_low : tie.Need-overflow-mul-low invariant-loop decreases-loop
+mul_low : tie.Need-offset_bounds-ws-f invariant-loop decreases-loop
 mul_low c = search rules
 
-shared-slice-read-low : tie.Need-shared-slice-read-low invariant-loop decreases-loop
+shared-slice-read-low : tie.Need-bounds-ws-f invariant-loop decreases-loop
 shared-slice-read-low c = search rules
 
 low-requires : tie.Need-low-requires invariant-loop decreases-loop
 low-requires c κs = search rules
 
-add_low : tie.Need-overflow-add-low invariant-loop decreases-loop
+add_low : tie.Need-overflow_add-f invariant-loop decreases-loop
 add_low c = search rules
 
-mul-low-2 : tie.Need-overflow-mul-low-2 invariant-loop decreases-loop
+mul-low-2 : tie.Need-offset_bounds-ws-f-in-loop-i invariant-loop decreases-loop
 mul-low-2 c = search rules
 
-shared-slice-read-low-2 : tie.Need-shared-slice-read-low-2 invariant-loop decreases-loop
+shared-slice-read-low-2 : tie.Need-bounds-ws-f-in-loop-i invariant-loop decreases-loop
 shared-slice-read-low-2 c = search rules
 
-low-requires-2 : tie.Need-low-requires-2 invariant-loop decreases-loop
+low-requires-2 : tie.Need-low-requires-in-loop-i invariant-loop decreases-loop
 low-requires-2 c κs = search rules
 
-add-low-2 : tie.Need-overflow-add-low-2 invariant-loop decreases-loop
+add-low-2 : tie.Need-overflow_add-f-in-loop-i invariant-loop decreases-loop
 add-low-2 c = search rules
 
-mul-low-3 : tie.Need-overflow-mul-low-3 invariant-loop decreases-loop
+mul-low-3 : tie.Need-offset_bounds-ws-f-in-loop-i-2 invariant-loop decreases-loop
 mul-low-3 c = search rules
 
-shared-slice-read-low-3 : tie.Need-shared-slice-read-low-3 invariant-loop decreases-loop
+shared-slice-read-low-3 : tie.Need-bounds-ws-f-in-loop-i-2 invariant-loop decreases-loop
 shared-slice-read-low-3 c = search rules
 
-low-requires-3 : tie.Need-low-requires-3 invariant-loop decreases-loop
+low-requires-3 : tie.Need-low-requires-in-loop-i-2 invariant-loop decreases-loop
 low-requires-3 c κs = search rules
 
-add-low-3 : tie.Need-overflow-add-low-3 invariant-loop decreases-loop
+add-low-3 : tie.Need-overflow_add-f-in-loop-i-2 invariant-loop decreases-loop
 add-low-3 c = search rules
 
-mul-low-4 : tie.Need-overflow-mul-low-4 invariant-loop decreases-loop
+mul-low-4 : tie.Need-offset_bounds-ws-f-in-loop-i-3 invariant-loop decreases-loop
 mul-low-4 c = search rules
 
-shared-slice-read-low-4 : tie.Need-shared-slice-read-low-4 invariant-loop decreases-loop
+shared-slice-read-low-4 : tie.Need-bounds-ws-f-in-loop-i-3 invariant-loop decreases-loop
 shared-slice-read-low-4 c = search rules
 
-low-requires-4 : tie.Need-low-requires-4 invariant-loop decreases-loop
+low-requires-4 : tie.Need-low-requires-in-loop-i-3 invariant-loop decreases-loop
 low-requires-4 c κs = search rules
 
-put-five-requires : tie.Need-put-five-requires invariant-loop decreases-loop
+put-five-requires : tie.Need-put_five-requires invariant-loop decreases-loop
 put-five-requires c κs = search rules
 
-add-i : tie.Need-overflow-add-i invariant-loop decreases-loop
+add-i : tie.Need-overflow_add-i invariant-loop decreases-loop
 add-i c = search rules
 
-loop-less : tie.Need-loop-smaller invariant-loop decreases-loop
+loop-less : tie.Need-loop-i-smaller invariant-loop decreases-loop
 loop-less c = search rules
 
-loop-again : tie.Need-loop-preserved invariant-loop decreases-loop
+loop-again : tie.Need-loop-i-preserved invariant-loop decreases-loop
 loop-again c =
     let d = c.before.before.before.before.before.before.before.before.before.before.before in
     let a = d.before.before.args in
@@ -93,19 +93,19 @@ loop-again c =
     let second = third.before.before in
     let first = second.before.before in (
       omega arith,
-      carriers-turn a.ws.now a.us.now _ _ a.at d.loop.i d.loop.invariant.1 (omega arith)
-          first.low.ensures second.low2.ensures third.low3.ensures fourth.low4.ensures c.put_five.ensures,
+      carriers-turn a.ws.now a.us.now _ _ a.at d.loop-i.i d.loop-i.invariant.1 (omega arith)
+          first.low.ensures second.low-in-loop-i.ensures third.low-in-loop-i-2.ensures fourth.low-in-loop-i-3.ensures c.put_five.ensures,
     )
 
 returns : tie.Need-returns invariant-loop decreases-loop
 returns c =
     let d = c.before in
     let a = d.before.before.args in
-    let e : d.loop.i ≡ a.full = omega arith in
-    d.loop.invariant.1 ∙ ap (λ (n : ℕ). sets a.us.now a.at (flat (carriers n (map low a.ws.now)))) e
+    let e : d.loop-i.i ≡ a.full = omega arith in
+    d.loop-i.invariant.1 ∙ ap (λ (n : ℕ). sets a.us.now a.at (flat (carriers n (map low a.ws.now)))) e
 
-pub lay-carriers-spec : {M : Type 1} → statement M
-lay-carriers-spec =
+pub lay_carriers_spec : {M : Type 1} → statement M
+lay_carriers_spec =
     tie.close
     (tie.spec
     invariant-loop

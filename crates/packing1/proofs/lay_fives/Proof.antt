@@ -11,88 +11,88 @@ use Rattle.packing1.proofs.Laws.{FivesSoFar, fives-begin, fives-inside, fives-tu
 use Rattle.packing1.proofs.lay_fives.Statement.{statement}
 use Rattle.packing1.proofs.lay_fives.Tie as tie
 
-abbrev invariant-loop : tie.invariant-loop
+abbrev invariant-loop : tie.invariant-loop-k
 invariant-loop ls ws us₀ k₀ at₀ o₀ us k at o = (k ≤ length ls) × (at ≤ length ws) × FivesSoFar ls ws us₀ us k at o
 
-abbrev decreases-loop : tie.decreases-loop
+abbrev decreases-loop : tie.decreases-loop-k
 decreases-loop ls ws us₀ k₀ at₀ o₀ us k at o = length ls - k
 
 -- in a turn the next packet stands in the sections, and its packs have room
-inside : (c : tie.In-loop invariant-loop decreases-loop)
+inside : (c : tie.In-loop-k invariant-loop decreases-loop)
     → let a = c.before.before.before.before.args in
-    let at = c.before.loop.at in
+    let at = c.before.loop-k.at in
     let dc = low (get_or a.ws.now (at + 5) 0) in
-    (at + (dc + 7) ≤ length a.ws.now) × (c.before.loop.k + 2 ≤ length a.ls.now)
-    × (c.before.loop.o + 5 * (1 + carriers_for dc) ≤ 9360)
-inside c = fives-inside c.before.loop.invariant.2 c.loop-test.true c.before.before.before.before.requires
+    (at + (dc + 7) ≤ length a.ws.now) × (c.before.loop-k.k + 2 ≤ length a.ls.now)
+    × (c.before.loop-k.o + 5 * (1 + carriers_for dc) ≤ 9360)
+inside c = fives-inside c.before.loop-k.invariant.2 c.loop-k-test.true c.before.before.before.before.requires
 
-loop-holds : tie.Need-loop-init invariant-loop decreases-loop
+loop-holds : tie.Need-loop-k-init invariant-loop decreases-loop
 loop-holds c = (omega arith, omega arith, fives-begin)
 
-add-low-byte : tie.Need-overflow-add-low-byte invariant-loop decreases-loop
+add-low-byte : tie.Need-overflow_add-at invariant-loop decreases-loop
 add-low-byte c = search rules
 
-mul-low-byte : tie.Need-overflow-mul-low-byte invariant-loop decreases-loop
+mul-low-byte : tie.Need-offset_bounds-ws-at invariant-loop decreases-loop
 mul-low-byte c = search rules
 
-shared-slice-read-low-byte : tie.Need-shared-slice-read-low-byte invariant-loop decreases-loop
+shared-slice-read-low-byte : tie.Need-bounds-ws-at invariant-loop decreases-loop
 shared-slice-read-low-byte c = let h = inside c.before in omega arith
 
-low-byte-requires : tie.Need-low-byte-requires invariant-loop decreases-loop
+low-byte-requires : tie.Need-low_byte-dc-requires invariant-loop decreases-loop
 low-byte-requires c κs = search rules
 
-mul-head1 : tie.Need-overflow-mul-head1 invariant-loop decreases-loop
+mul-head1 : tie.Need-offset_bounds-ls-k invariant-loop decreases-loop
 mul-head1 c = search rules
 
-shared-slice-read-head1 : tie.Need-shared-slice-read-head1 invariant-loop decreases-loop
+shared-slice-read-head1 : tie.Need-bounds-ls-k invariant-loop decreases-loop
 shared-slice-read-head1 c = search rules
 
 head0-requires : tie.Need-head0-requires invariant-loop decreases-loop
 head0-requires c κs = search rules
 
-add-head1 : tie.Need-overflow-add-head1 invariant-loop decreases-loop
+add-head1 : tie.Need-overflow_add-k invariant-loop decreases-loop
 add-head1 c = search rules
 
-mul-head1-2 : tie.Need-overflow-mul-head1-2 invariant-loop decreases-loop
+mul-head1-2 : tie.Need-offset_bounds-ls-k-in-loop-k invariant-loop decreases-loop
 mul-head1-2 c = search rules
 
-shared-slice-read-head1-2 : tie.Need-shared-slice-read-head1-2 invariant-loop decreases-loop
+shared-slice-read-head1-2 : tie.Need-bounds-ls-k-in-loop-k invariant-loop decreases-loop
 shared-slice-read-head1-2 c = let h = inside c.before.before.before.before.before in omega arith
 
 head1-requires : tie.Need-head1-requires invariant-loop decreases-loop
 head1-requires c κs = search rules
 
-lay-packet-requires : tie.Need-lay-packet-requires invariant-loop decreases-loop
+lay-packet-requires : tie.Need-lay_packet-o-requires invariant-loop decreases-loop
 lay-packet-requires c κs = let h = inside c.before.before.before.before.before.before.before in search rules
 
-add_at : tie.Need-overflow-add-at invariant-loop decreases-loop
+add_at : tie.Need-overflow_add-at-in-loop-k invariant-loop decreases-loop
 add_at c = search rules
 
-add-at-2 : tie.Need-overflow-add-at-2 invariant-loop decreases-loop
+add-at-2 : tie.Need-overflow_add-at-in-loop-k-2 invariant-loop decreases-loop
 add-at-2 c = let h = inside c.before.before.before.before.before.before.before.before in omega arith
 
-add-k : tie.Need-overflow-add-k invariant-loop decreases-loop
+add-k : tie.Need-overflow_add-k-in-loop-k invariant-loop decreases-loop
 add-k c = let h = inside c.before.before.before.before.before.before.before.before in omega arith
 
-loop-less : tie.Need-loop-smaller invariant-loop decreases-loop
+loop-less : tie.Need-loop-k-smaller invariant-loop decreases-loop
 loop-less c = let h = inside c.before.before.before.before.before.before.before.before in omega arith
 
-loop-again : tie.Need-loop-preserved invariant-loop decreases-loop
+loop-again : tie.Need-loop-k-preserved invariant-loop decreases-loop
 loop-again c =
     let d = c.before.before.before.before.before.before.before.before in
     let h = inside d in
-    let size = c.before.before.before.before.before.before.low_byte.ensures in (
+    let size = c.before.before.before.before.before.before.low_byte-dc.ensures in (
       omega arith,
       omega arith,
-      fives-turn d.before.loop.invariant.2 d.loop-test.true size c.before.before.before.before.head0.ensures
-          c.before.before.head1.ensures c.lay-packet.ensures.0 c.lay-packet.ensures.1,
+      fives-turn d.before.loop-k.invariant.2 d.loop-k-test.true size c.before.before.before.before.head0.ensures
+          c.before.before.head1.ensures c.lay_packet-o.ensures.0 c.lay_packet-o.ensures.1,
     )
 
 returns : tie.Need-returns invariant-loop decreases-loop
-returns c = fives-done c.before.loop.invariant.2 c.loop-test.false
+returns c = fives-done c.before.loop-k.invariant.2 c.loop-k-test.false
 
-pub lay-fives-spec : {M : Type 1} → statement M
-lay-fives-spec =
+pub lay_fives_spec : {M : Type 1} → statement M
+lay_fives_spec =
     tie.close
     (tie.spec
     invariant-loop

@@ -55,7 +55,7 @@ returns c =
     λ y e.
     ⊎_elim
     (λ w. place-flags y _ e k ls (omega arith) (omega (arith, ltb-true)))
-    (λ w. place-line y _ e k ls (omega arith) (sym (w.2.ensures y e) ∙ not-true _ w.3.taken))
+    (λ w. place-line y _ e k ls (omega arith) (sym (w.may_stand.ensures y e) ∙ not-true _ w.if-not-may_stand.true-raw))
     c.then-ls-k-gt3.branch-raw
     ∙ c.before.before.before.loop-k.invariant.1 y e
 

@@ -10,7 +10,7 @@ shared-slice-read-if2 : tie.Need-bounds-s-0
 shared-slice-read-if2 c = search rules
 
 returns : tie.Need-returns-then-s-lt4
-returns c = ⊎_elim (λ w. ends-early _ (omega arith)) (λ w. not-one _ w.2.taken) c.then-s-lt4.branch-raw
+returns c = ⊎_elim (λ w. ends-early _ (omega arith)) (λ w. not-one _ w.if-s-ne1.true-raw) c.then-s-lt4.branch-raw
 
 shared-slice-read-wide : tie.Need-bounds-s-2
 shared-slice-read-wide c = search rules

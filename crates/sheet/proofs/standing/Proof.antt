@@ -54,7 +54,7 @@ returns c =
     λ y e.
     ⊎_elim
     (λ w. line-past y _ e k ls (omega arith) (omega arith))
-    (λ w. let f = w.2.taken in flags-past y _ e k ls (omega arith) (omega (arith, ltb-true)))
+    (λ w. let f = w.if-ls-k-gt3.true in flags-past y _ e k ls (omega arith) (omega (arith, ltb-true)))
     c.then-ls-k.branch-raw
     ∙ c.before.before.before.before.loop-k.invariant.1 y e
 

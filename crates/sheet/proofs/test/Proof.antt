@@ -48,14 +48,14 @@ returns-2 c =
     tests _ _ (c.refusal-then-figures-eq0.ensures ∙ o)
 
 list-tests-requires : tie.Need-list_tests-requires
-list-tests-requires c κs = holds c.before.before.before.before.before
+list-tests-requires c κs = holds c.before.before.before.before.before.before
 
 returns-3 : tie.Need-returns
 returns-3 c =
-    let b : tie.After-wide-system = c.before.before.before.before in
+    let b : tie.After-wide-system = c.before.before.before.before.before in
     let s : List ℕ = b.before.before.before.before.before.args.s.now in
-    let x = c.before.before.before.figures_of-figures.ensures in
-    tests _ _ (the-list s (holds b.before.before) _ b.wide-system.ensures.0 _ x c.before.if-figures-eq0.false _ c.list_tests.ensures)
+    let x = c.before.before.before.before.figures_of-figures.ensures in
+    tests _ _ (the-list s (holds b.before.before) _ b.wide-system.ensures.0 _ x c.before.before.if-figures-eq0.false _ c.list_tests.ensures)
 
 pub test_spec : {M : Type 1} → statement M
 test_spec =

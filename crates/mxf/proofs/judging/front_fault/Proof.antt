@@ -22,7 +22,7 @@ use Rattle.mxf.proofs.judging.front_fault.Statement.{statement}
 use Rattle.mxf.proofs.judging.front_fault.Tie as tie
 
 -- past the test of the line
-module _ (c : tie.Else3) where
+module _ (c : tie.Else-last-line) where
   abbrev s : List ℕ
   s = c.before.before.before.before.before.before.args.s.now
 
@@ -31,105 +31,105 @@ module _ (c : tie.Else3) where
 
   some : two_in s 0 ≡ 0 → ⊥
   some z =
-      let e = c.before.before.before.two.ensures.0 in
-      let l = c.before.before.if2.false in
+      let e = c.before.before.before.two-line.ensures.0 in
+      let l = c.before.before.if-line-eq0.false in
       omega arith
 
   within : two_in s 0 ≤ last
   within =
-      let e = c.before.before.before.two.ensures.0 in
-      let l = c.if3.false in
+      let e = c.before.before.before.two-line.ensures.0 in
+      let l = c.if-last-line.false-raw in
       omega (arith, ltb-false)
 
-add-missing : tie.Need-overflow-add-missing
+add-missing : tie.Need-overflow_add-missing
 add-missing c = search rules
 
-returns : tie.Need-returns
-returns c k p q e o = line-missing k _ _ _ _ c.before.before.requires.0 e o c.if1.true
+returns : tie.Need-returns-then-s-lt2
+returns c k p q e o = line-missing k _ _ _ _ c.before.before.requires.0 e o c.if-s-lt2.true
 
-two-requires : tie.Need-two-requires
+two-requires : tie.Need-two-line-requires
 two-requires c κs = search rules
 
-cast-if3 : tie.Need-overflow-cast-if3
+cast-if3 : tie.Need-overflow_cast-last
 cast-if3 c = search rules
 
-returns-2 : tie.Need-returns-2
+returns-2 : tie.Need-returns-then-line-eq0
 returns-2 c k p q e o =
-    let t = c.before.two.ensures.0 in
-    let l = c.before.before.if1.false in
+    let t = c.before.two-line.ensures.0 in
+    let l = c.before.before.if-s-lt2.false in
     let pos = c.before.before.before.before.requires.0 in
     ⊎_elim
-    (λ w. let m = w.taken in line-none k _ _ _ _ pos e o l (omega arith))
-    (λ w. let m = w.2.taken in line-past k _ _ _ _ pos e o l (omega (arith, ltb-true)))
-    c.if2.branch
+    (λ w. let m = w.if-line-eq0.true in line-none k _ _ _ _ pos e o l (omega arith))
+    (λ w. let m = w.if-last-line.true-raw in line-past k _ _ _ _ pos e o l (omega (arith, ltb-true)))
+    c.then-line-eq0.branch-raw
 
-returns-3 : tie.Need-returns-3
+returns-3 : tie.Need-returns-then-s-lt3
 returns-3 c k p q e o =
-    let d : tie.Else3 = c.before in
+    let d : tie.Else-last-line = c.before in
     let f = d.before.before.before.before in
-    wrapping-missing k _ _ _ _ f.before.before.requires.0 e o f.if1.false (some d) (within d) c.if4.true
+    wrapping-missing k _ _ _ _ f.before.before.requires.0 e o f.if-s-lt2.false (some d) (within d) c.if-s-lt3.true
 
-shared-slice-read-if5 : tie.Need-shared-slice-read-if5
+shared-slice-read-if5 : tie.Need-bounds-s-2
 shared-slice-read-if5 c = search rules
 
 wrapping-requires : tie.Need-wrapping-requires
 wrapping-requires c κs = search rules
 
-add-result : tie.Need-overflow-add-result
+add-result : tie.Need-overflow_add-result
 add-result c = search rules
 
-returns-4 : tie.Need-returns-4
+returns-4 : tie.Need-returns-then-s-wrapping
 returns-4 c k p q e o =
     let w = c.before in
-    let d : tie.Else3 = w.before.before.before in
+    let d : tie.Else-last-line = w.before.before.before in
     let f = d.before.before.before.before in
-    wrapping-wrong k _ _ _ _ f.before.before.requires.0 e o f.if1.false (some d) (within d) w.before.before.if4.false _
-    w.wrapping.ensures c.if5.true
+    wrapping-wrong k _ _ _ _ f.before.before.requires.0 e o f.if-s-lt2.false (some d) (within d) w.before.before.if-s-lt3.false _
+    w.wrapping.ensures c.if-s-wrapping.true
 
-returns-5 : tie.Need-returns-5
+returns-5 : tie.Need-returns-then-s-lt4
 returns-5 c k p q e o =
     let w = c.before.before in
-    let d : tie.Else3 = w.before.before.before in
+    let d : tie.Else-last-line = w.before.before.before in
     let f = d.before.before.before.before in
-    coding-missing k _ _ _ _ f.before.before.requires.0 e o f.if1.false (some d) (within d) w.before.before.if4.false _
-    w.wrapping.ensures c.before.if5.false c.if6.true
+    coding-missing k _ _ _ _ f.before.before.requires.0 e o f.if-s-lt2.false (some d) (within d) w.before.before.if-s-lt3.false _
+    w.wrapping.ensures c.before.if-s-wrapping.false c.if-s-lt4.true
 
-shared-slice-read-if7 : tie.Need-shared-slice-read-if7
+shared-slice-read-if7 : tie.Need-bounds-s-3
 shared-slice-read-if7 c = search rules
 
-shared-slice-read-if8 : tie.Need-shared-slice-read-if8
+shared-slice-read-if8 : tie.Need-bounds-s-3-then-s-luma
 shared-slice-read-if8 c = search rules
 
-add-result-2 : tie.Need-overflow-add-result-2
+add-result-2 : tie.Need-overflow_add-result-then-s-colour
 add-result-2 c = search rules
 
-returns-6 : tie.Need-returns-6
+returns-6 : tie.Need-returns-then-s-colour
 returns-6 c k p q e o =
     let m = c.before.before.before.before in
     let w = m.before.before in
-    let d : tie.Else3 = w.before.before.before in
+    let d : tie.Else-last-line = w.before.before.before in
     let f = d.before.before.before.before in
-    coding-wrong k _ _ _ _ f.before.before.requires.0 e o f.if1.false (some d) (within d) w.before.before.if4.false _
-    w.wrapping.ensures m.before.if5.false m.if6.false (λ z. c.before.before.if7.true (z ∙ sym p))
-    (λ z. eqb-false _ _ (not-true _ c.if8.true) (z ∙ sym q))
+    coding-wrong k _ _ _ _ f.before.before.requires.0 e o f.if-s-lt2.false (some d) (within d) w.before.before.if-s-lt3.false _
+    w.wrapping.ensures m.before.if-s-wrapping.false m.if-s-lt4.false (λ z. c.before.before.if-s-luma.true (z ∙ sym p))
+    (λ z. eqb-false _ _ (not-true _ c.if-s-colour.true-raw) (z ∙ sym q))
 
-returns-7 : tie.Need-returns-7
+returns-7 : tie.Need-returns
 returns-7 c k p q e o =
     let m = c.before.before in
     let w = m.before.before in
-    let d : tie.Else3 = w.before.before.before in
+    let d : tie.Else-last-line = w.before.before.before in
     let f = d.before.before.before.before in
     let pos = f.before.before.requires.0 in
-    let l = f.if1.false in
-    let r = m.before.if5.false in
-    let g = w.before.before.if4.false in
+    let l = f.if-s-lt2.false in
+    let r = m.before.if-s-wrapping.false in
+    let g = w.before.before.if-s-lt3.false in
     ⊎_elim
-    (λ x. colour k _ _ _ _ pos e o l (some d) (within d) g _ w.wrapping.ensures r m.if6.false (eqb-true _ _ (not-false _ x.2.left) ∙ q))
-    (λ x. luma k _ _ _ _ pos e o l (some d) (within d) g _ w.wrapping.ensures r m.if6.false (x.left ∙ p))
-    c.if7.branch
+    (λ x. colour k _ _ _ _ pos e o l (some d) (within d) g _ w.wrapping.ensures r m.if-s-lt4.false (eqb-true _ _ (not-false _ x.if-s-colour.false-raw) ∙ q))
+    (λ x. luma k _ _ _ _ pos e o l (some d) (within d) g _ w.wrapping.ensures r m.if-s-lt4.false (x.if-s-luma.false ∙ p))
+    c.else-s-luma.branch-raw
 
-pub front-fault-spec : {M : Type 1} → statement M
-front-fault-spec =
+pub front_fault_spec : {M : Type 1} → statement M
+front_fault_spec =
     tie.close
     (tie.spec
     add-missing

@@ -15,95 +15,95 @@ use Rattle.mxf.proofs.judging.head_fault.Statement.{statement}
 use Rattle.mxf.proofs.judging.head_fault.Tie as tie
 
 -- all bytes of the key were found
-module _ (c : tie.Else1) where
-  found : c.before.key-bytes.result ≡ 16
+module _ (c : tie.Else-key-lt16) where
+  found : c.before.key_bytes-key.result ≡ 16
   found =
-      let l = c.if1.false in
-      let m = c.before.key-bytes.ensures.0 in
+      let l = c.if-key-lt16.false in
+      let m = c.before.key_bytes-key.ensures.0 in
       omega arith
 
-key-bytes-requires : tie.Need-key-bytes-requires
+key-bytes-requires : tie.Need-key_bytes-key-requires
 key-bytes-requires c κs = search rules
 
-returns : tie.Need-returns
-returns c = (omega arith, λ o. key-wrong _ _ c.before.key-bytes.ensures.1 o c.if1.true, λ z. absurd (omega arith))
+returns : tie.Need-returns-then-key-lt16
+returns c = (omega arith, λ o. key-wrong _ _ c.before.key_bytes-key.ensures.1 o c.if-key-lt16.true, λ z. absurd (omega arith))
 
-returns-2 : tie.Need-returns-2
+returns-2 : tie.Need-returns-then-e-lt17
 returns-2 c =
-    let d : tie.Else1 = c.before in
-    (omega arith, λ o. form-missing _ _ d.before.key-bytes.ensures.1 o (found d) c.if2.true, λ z. absurd (omega arith))
+    let d : tie.Else-key-lt16 = c.before in
+    (omega arith, λ o. form-missing _ _ d.before.key_bytes-key.ensures.1 o (found d) c.if-e-lt17.true, λ z. absurd (omega arith))
 
-shared-slice-read-if3 : tie.Need-shared-slice-read-if3
+shared-slice-read-if3 : tie.Need-bounds-e-16
 shared-slice-read-if3 c = search rules
 
-returns-3 : tie.Need-returns-3
+returns-3 : tie.Need-returns-then-e
 returns-3 c =
     let f = c.before.before in
-    let d : tie.Else1 = f.before in (
+    let d : tie.Else-key-lt16 = f.before in (
       search rules,
-      λ o. form-wrong _ _ d.before.key-bytes.ensures.1 o (found d) f.if2.false c.if3.true,
+      λ o. form-wrong _ _ d.before.key_bytes-key.ensures.1 o (found d) f.if-e-lt17.false c.if-e.true,
       λ z. absurd (omega arith),
     )
 
-returns-4 : tie.Need-returns-4
+returns-4 : tie.Need-returns-then-e-lt20
 returns-4 c =
     let f = c.before.before.before in
-    let d : tie.Else1 = f.before in (
+    let d : tie.Else-key-lt16 = f.before in (
       omega arith,
-      λ o. length-missing _ _ d.before.key-bytes.ensures.1 o (found d) f.if2.false c.before.if3.false c.if4.true,
+      λ o. length-missing _ _ d.before.key_bytes-key.ensures.1 o (found d) f.if-e-lt17.false c.before.if-e.false c.if-e-lt20.true,
       λ z. absurd (omega arith),
     )
 
 three-requires : tie.Need-three-requires
 three-requires c κs = search rules
 
-add-if5 : tie.Need-overflow-add-if5
+add-if5 : tie.Need-overflow_add-three
 add-if5 c = search rules
 
-returns-5 : tie.Need-returns-5
+returns-5 : tie.Need-returns-then-three-e
 returns-5 c =
     let g = c.before.before in
     let f = g.before.before.before in
-    let d : tie.Else1 = f.before in
+    let d : tie.Else-key-lt16 = f.before in
     let t = c.before.three.ensures.0 in (
       search rules,
       λ o.
-          length-wrong _ _ d.before.key-bytes.ensures.1 o (found d) f.if2.false g.before.if3.false g.if4.false
-          (λ z. let h = c.if5.true in omega arith),
+          length-wrong _ _ d.before.key_bytes-key.ensures.1 o (found d) f.if-e-lt17.false g.before.if-e.false g.if-e-lt20.false
+          (λ z. let h = c.if-three-e.true in omega arith),
       λ z. absurd (omega arith),
     )
 
-returns-6 : tie.Need-returns-6
+returns-6 : tie.Need-returns-then-e-lt-HEAD
 returns-6 c =
     let g = c.before.before.before in
     let f = g.before.before.before in
-    let d : tie.Else1 = f.before in
+    let d : tie.Else-key-lt16 = f.before in
     let t = c.before.before.three.ensures.0 in (
       omega arith,
       λ o.
-          n-missing _ _ d.before.key-bytes.ensures.1 o (found d) f.if2.false g.before.if3.false g.if4.false
-          (let e = c.before.if5.false in omega arith)
-          c.if6.true,
+          n-missing _ _ d.before.key_bytes-key.ensures.1 o (found d) f.if-e-lt17.false g.before.if-e.false g.if-e-lt20.false
+          (let e = c.before.if-three-e.false in omega arith)
+          c.if-e-lt-HEAD.true,
       λ z. absurd (omega arith),
     )
 
-returns-7 : tie.Need-returns-7
+returns-7 : tie.Need-returns
 returns-7 c =
     let g = c.before.before.before in
     let f = g.before.before.before in
-    let d : tie.Else1 = f.before in
+    let d : tie.Else-key-lt16 = f.before in
     let t = c.before.before.three.ensures in
-    let e = c.before.if5.false in (
+    let e = c.before.if-three-e.false in (
       search rules,
       λ o.
-          head-right _ _ d.before.key-bytes.ensures.1 o (found d) f.if2.false g.before.if3.false g.if4.false
+          head-right _ _ d.before.key_bytes-key.ensures.1 o (found d) f.if-e-lt17.false g.before.if-e.false g.if-e-lt20.false
           (omega arith)
-          c.if6.false,
-      λ z. (c.if6.false, omega arith),
+          c.if-e-lt-HEAD.false,
+      λ z. (c.if-e-lt-HEAD.false, omega arith),
     )
 
-pub head-fault-spec : {M : Type 1} → statement M
-head-fault-spec =
+pub head_fault_spec : {M : Type 1} → statement M
+head_fault_spec =
     tie.close
     (tie.spec
     key-bytes-requires

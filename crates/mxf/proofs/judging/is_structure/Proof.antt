@@ -16,17 +16,17 @@ use Rattle.mxf.proofs.judging.is_structure.Statement.{statement}
 use Rattle.mxf.proofs.judging.is_structure.Tie as tie
 
 -- past every test but that of the element length
-module _ (c : tie.After-four2) where
-  abbrev counted : tie.After-four
+module _ (c : tie.After-four) where
+  abbrev counted : tie.After-four-count
   counted = c.before.before.before
 
-  abbrev summed : tie.After-two2
+  abbrev summed : tie.After-two-samples
   summed = counted.before.before.before.before
 
-  abbrev coding : tie.Joined5
+  abbrev coding : tie.Joined-else-s-ne-LUMA
   coding = summed.before
 
-  abbrev lined : tie.Else3
+  abbrev lined : tie.Else-line-eq0
   lined = coding.before.before.before.before
 
   abbrev s : List ℕ
@@ -36,99 +36,99 @@ module _ (c : tie.After-four2) where
   last = lined.before.before.before.before.before.before.args.last.0
 
   some : two_in s 0 ≡ 0 → ⊥
-  some z = eqb-false _ _ lined.if3.left (lined.before.before.before.two.ensures.0 ∙ z)
+  some z = eqb-false _ _ lined.if-line-eq0.false-raw (lined.before.before.before.two-line.ensures.0 ∙ z)
 
   within : two_in s 0 ≤ last
   within =
-      let e = lined.before.before.before.two.ensures.0 in
-      let l = lined.before.if2.left in
+      let e = lined.before.before.before.two-line.ensures.0 in
+      let l = lined.before.if-last-line.false in
       omega arith
 
   coded : (get_or s 3 0 ≡ 4) ⊎ (get_or s 3 0 ≡ 5)
-  coded = ⊎_elim (λ x. inr (eqb-true _ _ (not-false _ x.2.left))) (λ x. inl x.left) coding.if5.came
+  coded = ⊎_elim (λ x. inr (eqb-true _ _ (not-false _ x.if-s-ne-COLOUR.false-raw))) (λ x. inl x.if-s-ne-LUMA.false) coding.else-s-ne-LUMA.branch-raw
 
   is_whole : Whole eight s
   is_whole =
-      let l = lined.before.before.before.before.if1.left in
-      let e = summed.two2.ensures.0 in
+      let l = lined.before.before.before.before.if-s-lt17.false in
+      let e = summed.two-samples.ensures.0 in
       let y = counted.before.before.wide.ensures.0 in
-      let h = counted.before.if7.left in
-      let f = counted.four.ensures.0 in
-      let m = c.before.before.if8.false in
-      let n = c.before.if9.false in
+      let h = counted.before.if-samples-wide.false in
+      let f = counted.four-count.ensures.0 in
+      let m = c.before.before.if-count-samples.false in
+      let n = c.before.if-s-count.false-raw in
       record { there = omega (arith, ltb-false); room = omega arith; dc = omega arith }
 
   most : two_in s 4 ≤ 258
   most =
-      let e = summed.two2.ensures.0 in
+      let e = summed.two-samples.ensures.0 in
       let y = counted.before.before.wide.ensures.1 in
-      let h = counted.before.if7.left in
+      let h = counted.before.if-samples-wide.false in
       omega arith
 
-returns : tie.Need-returns
+returns : tie.Need-returns-then-s-lt17
 returns c = (λ q. never cc, λ q. never cc)
 
-two-requires : tie.Need-two-requires
+two-requires : tie.Need-two-line-requires
 two-requires c κs = search rules
 
-cast-if2 : tie.Need-overflow-cast-if2
+cast-if2 : tie.Need-overflow_cast-last
 cast-if2 c = search rules
 
-returns-2 : tie.Need-returns-2
+returns-2 : tie.Need-returns-then-last-line
 returns-2 c = (λ q. never cc, λ q. never cc)
 
-shared-slice-read-if4 : tie.Need-shared-slice-read-if4
+shared-slice-read-if4 : tie.Need-bounds-s-2
 shared-slice-read-if4 c = search rules
 
-returns-3 : tie.Need-returns-3
+returns-3 : tie.Need-returns-then-s-wrapping
 returns-3 c = (λ q. never cc, λ q. never cc)
 
-shared-slice-read-if5 : tie.Need-shared-slice-read-if5
+shared-slice-read-if5 : tie.Need-bounds-s-3
 shared-slice-read-if5 c = search rules
 
-shared-slice-read-if6 : tie.Need-shared-slice-read-if6
+shared-slice-read-if6 : tie.Need-bounds-s-3-then-s-ne-LUMA
 shared-slice-read-if6 c = search rules
 
-returns-4 : tie.Need-returns-4
+returns-4 : tie.Need-returns-then-s-ne-COLOUR
 returns-4 c = (λ q. never cc, λ q. never cc)
 
-two-requires-2 : tie.Need-two-requires-2
+two-requires-2 : tie.Need-two-samples-requires
 two-requires-2 c κs = search rules
 
-shared-slice-read-wide : tie.Need-shared-slice-read-wide
+shared-slice-read-wide : tie.Need-bounds-s-16
 shared-slice-read-wide c = search rules
 
 wide-requires : tie.Need-wide-requires
 wide-requires c κs = search rules
 
-add-if7 : tie.Need-overflow-add-if7
+add-if7 : tie.Need-overflow_add-wide
 add-if7 c = search rules
 
-returns-5 : tie.Need-returns-5
+returns-5 : tie.Need-returns-then-samples-wide
 returns-5 c = (λ q. never cc, λ q. never cc)
 
-four-requires : tie.Need-four-requires
+four-requires : tie.Need-four-count-requires
 four-requires c κs = search rules
 
-sub-if9 : tie.Need-overflow-sub-if9
+sub-if9 : tie.Need-overflow_sub-s
 sub-if9 c = search rules
 
-returns-6 : tie.Need-returns-6
+returns-6 : tie.Need-returns-then-count-samples
 returns-6 c = (λ q. never cc, λ q. never cc)
 
-four-requires-2 : tie.Need-four-requires-2
+four-requires-2 : tie.Need-four-requires
 four-requires-2 c κs = search rules
 
-returns-7 : tie.Need-returns-7
+returns-7 : tie.Need-returns
 returns-7 c = (
   λ q. is_whole c,
   λ q system w e.
-      passes system _ _ e (some c) (within c) ((coding c).before.before.if4.false ∙ w) (coded c) (is_whole c) (most c)
-      (sym c.four2.ensures.0 ∙ eqb-true _ _ q),
+      passes system _ _ e (some c) (within c) ((coding c).before.before.if-s-wrapping.false ∙ w) (coded c) (is_whole c) (most c)
+      (sym c.four.ensures.0 ∙ eqb-true _ _ q),
 )
 
-pub is-structure-spec : {M : Type 1} → statement M
-is-structure-spec =
+pub is_structure_spec : {M : Type 1} → statement M
+is_structure_spec =
     tie.close
     (tie.spec
     returns

@@ -21,11 +21,11 @@ is-other : (sys : ℕ) (fi : Bool) → (sys ≡ 3 → ⊥) → 0 ≡ fi_read sys
 unfolding fi_read progressive
 is-other sys fi h = rw (ne_eqb sys 3 h)
 
-returns : tie.Need-returns
-returns c = is_one _ _ c.before.if1.true c.if2.true
+returns : tie.Need-returns-then-fi
+returns c = is_one _ _ c.before.if-system-eq3.true c.if-fi.true
 
-returns-2 : tie.Need-returns-2
-returns-2 c = ⊎_elim (λ w. is_zero _ _ w.0.taken w.1.left) (λ w. is-other _ _ w.left) c.if1.branch
+returns-2 : tie.Need-returns
+returns-2 c = ⊎_elim (λ w. is_zero _ _ w.if-system-eq3.true w.if-fi.false) (λ w. is-other _ _ w.if-system-eq3.false) c.else-system-eq3.branch-raw
 
-pub fi-of-spec : {M : Type 1} → statement M
-fi-of-spec = tie.close (tie.spec returns returns-2)
+pub fi_of_spec : {M : Type 1} → statement M
+fi_of_spec = tie.close (tie.spec returns returns-2)

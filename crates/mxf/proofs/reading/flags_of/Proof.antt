@@ -15,14 +15,14 @@ luma first other coding e = rw (eq-eqb coding other e)
 colour : (first other coding : ℕ) → (coding ≡ other → ⊥) → first ≡ first + 2 * cond (eqb coding other) 1 0
 colour first other coding h = rw (ne_eqb coding other h) (omega arith)
 
-add-result : tie.Need-overflow-add-result
+add-result : tie.Need-overflow_add-result
 add-result c = search rules
 
-returns : tie.Need-returns
-returns c = luma _ _ _ c.if1.true
+returns : tie.Need-returns-then-coding-luma
+returns c = luma _ _ _ c.if-coding-luma.true
 
-returns-2 : tie.Need-returns-2
-returns-2 c = colour _ _ _ c.if1.false
+returns-2 : tie.Need-returns
+returns-2 c = colour _ _ _ c.if-coding-luma.false
 
-pub flags-of-spec : {M : Type 1} → statement M
-flags-of-spec = tie.close (tie.spec add-result returns returns-2)
+pub flags_of_spec : {M : Type 1} → statement M
+flags_of_spec = tie.close (tie.spec add-result returns returns-2)

@@ -19,63 +19,63 @@ use Rattle.mxf.proofs.reading.read.Statement.{statement}
 use Rattle.mxf.proofs.reading.read.Tie as tie
 
 -- the element's numbers are bytes
-bytes : (c : tie.After-figures-of) → Bytes c.before.before.before.args.element.now
-bytes c = λ i. (c.before.before.shared-slice-known.given i).fits
+bytes : (c : tie.After-figures_of-figures) → Bytes c.before.before.before.args.element.now
+bytes c = λ i. (c.before.before.shared_slice_known-1.given i).fits
 
 -- past 3 the system is known
-is_one : (c : tie.Else1) → known c.before.before.before.before.before.args.system ≡ true
+is_one : (c : tie.Else-figures-eq0) → known c.before.before.before.before.before.args.system ≡ true
 is_one c =
     let b = c.before.before in
-    is_known b.before.before.before.args.system b.figures-of.result b.figures-of.ensures c.if1.false
+    is_known b.before.before.before.args.system b.figures_of-figures.result b.figures_of-figures.ensures c.if-figures-eq0.false
 
 -- what judging says
-judged-is : (c : tie.After-judge)
+judged-is : (c : tie.After-judge-j)
     → (let a = c.before.before.before.before.before.before.args in
-    c.judge.result ≡ read_of a.system (judged a.system a.fi a.element.now))
+    c.judge-j.result ≡ read_of a.system (judged a.system a.fi a.element.now))
 judged-is c =
     let b = c.before.before.before in
     let a = b.before.before.before.args in
-    c.judge.ensures (last-is a.system b.figures-of.result b.figures-of.ensures) a.fi
+    c.judge-j.ensures (last-is a.system b.figures_of-figures.result b.figures_of-figures.ensures) a.fi
 
-figures-of-requires : tie.Need-figures-of-requires
+figures-of-requires : tie.Need-figures_of-figures-requires
 figures-of-requires c κs = search rules
 
 refusal-requires : tie.Need-refusal-requires
 refusal-requires c κs = search rules
 
 -- 3
-returns : tie.Need-returns
+returns : tie.Need-returns-then-figures-eq0
 returns c =
     let b = c.before.before.before in
     let a = b.before.before.before.args in
-    let k = is-unknown a.system b.figures-of.result b.figures-of.ensures c.before.if1.true in
+    let k = is-unknown a.system b.figures_of-figures.result b.figures_of-figures.ensures c.before.if-figures-eq0.true in
     answered a.system a.fi a.element.now a.sheet.now c.refusal.result a.sheet.now (bytes b)
     (unknown-system a.system (judged a.system a.fi a.element.now) a.sheet.now c.refusal.result a.sheet.now k
     c.refusal.ensures refl)
 
-judge-requires : tie.Need-judge-requires
+judge-requires : tie.Need-judge-j-requires
 judge-requires c κs = search rules
 
 -- 19
-returns-2 : tie.Need-returns-2
+returns-2 : tie.Need-returns-then-j-ne0
 returns-2 c =
     let d = c.before.before in
     let a = d.before.before.before.before.before.before.args in
-    answered a.system a.fi a.element.now a.sheet.now d.judge.result a.sheet.now (bytes d.before.before.before)
-    (known-system a.system (judged a.system a.fi a.element.now) a.sheet.now d.judge.result a.sheet.now (is_one d.before)
-    (refused-before eight a.system a.fi a.element.now a.sheet.now d.judge.result (judged-is d) c.if2.true))
+    answered a.system a.fi a.element.now a.sheet.now d.judge-j.result a.sheet.now (bytes d.before.before.before.before)
+    (known-system a.system (judged a.system a.fi a.element.now) a.sheet.now d.judge-j.result a.sheet.now (is_one d.before.before)
+    (refused-before eight a.system a.fi a.element.now a.sheet.now d.judge-j.result (judged-is d) c.if-j-ne0.true))
 
 -- past 19 the head is there
-there : (c : tie.Else2) → 22 ≤ length c.before.before.before.before.before.before.before.before.args.element.now
+there : (c : tie.Else-j-ne0) → 22 ≤ length c.before.before.before.before.before.before.before.before.args.element.now
 there c =
     let d = c.before.before in
     let a = d.before.before.before.before.before.before.args in
-    head-there eight a.system a.fi a.element.now a.sheet.now d.judge.result (judged-is d) c.if2.false
+    head-there eight a.system a.fi a.element.now a.sheet.now d.judge-j.result (judged-is d) c.if-j-ne0.false
 
 -- and the structures have been judged
-abbrev found : (c : tie.Else2)
+abbrev found : (c : tie.Else-j-ne0)
     → (let e = c.before.before.before.before.before.before.before.before.args.element.now in
-    Found c.before.before.judge.result.packets (take (length e - 22) (drop 22 e)))
+    Found c.before.before.judge-j.result.packets (take (length e - 22) (drop 22 e)))
 found c =
     let d = c.before.before in
     let a = d.before.before.before.before.before.before.args in
@@ -83,64 +83,64 @@ found c =
       coding = eight;
       sys = a.system;
       fi = a.fi;
-      judged = structs-are eight a.system a.fi a.element.now a.sheet.now d.judge.result (judged-is d) c.if2.false;
+      judged = structs-are eight a.system a.fi a.element.now a.sheet.now d.judge-j.result (judged-is d) c.if-j-ne0.false;
     }
 
-sub-allowed : tie.Need-overflow-sub-allowed
-sub-allowed c = let h = there c in omega arith
+sub-allowed : tie.Need-slice_bounds-allowed-count
+sub-allowed c = let h = there c.before in omega arith
 
-part-allowed-start : tie.Need-slice-bounds-allowed-start
-part-allowed-start c = let h = there c in omega arith
+part-allowed-start : tie.Need-slice_bounds-allowed-start
+part-allowed-start c = let h = there c.before in omega arith
 
-part-allowed-end : tie.Need-slice-bounds-allowed-end
+part-allowed-end : tie.Need-slice_bounds-allowed-end
 part-allowed-end c = search rules
 
-allowed-requires : tie.Need-allowed-requires
-allowed-requires c κs = found c.before
+allowed-requires : tie.Need-allowed-k-requires
+allowed-requires c κs = found c.before.before
 
-refusal-requires-2 : tie.Need-refusal-requires-2
+refusal-requires-2 : tie.Need-refusal-requires-then-k-n
 refusal-requires-2 c κs = search rules
 
 -- 20
-returns-3 : tie.Need-returns-3
+returns-3 : tie.Need-returns-then-k-n
 returns-3 c =
     let w = c.before.before in
-    let z = w.before.before in
+    let z = w.before.before.before in
     let d = z.before.before in
-    let f = d.before.before.before in
+    let f = d.before.before.before.before in
     let a = f.before.before.before.args in
-    let is = sym (last-is a.system f.figures-of.result f.figures-of.ensures) in
-    answered a.system a.fi a.element.now a.sheet.now c.refusal2.result a.sheet.now (bytes f)
-    (known-system a.system (judged a.system a.fi a.element.now) a.sheet.now c.refusal2.result a.sheet.now
-    (is_one d.before)
-    (not-allowed eight a.system a.fi a.element.now a.sheet.now d.judge.result (judged-is d) z.if2.false w.allowed.result
-    (w.allowed.ensures (found z) (system a.system) is) c.before.if3.true c.refusal2.result c.refusal2.ensures))
+    let is = sym (last-is a.system f.figures_of-figures.result f.figures_of-figures.ensures) in
+    answered a.system a.fi a.element.now a.sheet.now c.refusal-then-k-n.result a.sheet.now (bytes f)
+    (known-system a.system (judged a.system a.fi a.element.now) a.sheet.now c.refusal-then-k-n.result a.sheet.now
+    (is_one d.before.before)
+    (not-allowed eight a.system a.fi a.element.now a.sheet.now d.judge-j.result (judged-is d) z.if-j-ne0.false w.allowed-k.result
+    (w.allowed-k.ensures (found z) (system a.system) is) c.before.if-k-n.true c.refusal-then-k-n.result c.refusal-then-k-n.ensures))
 
 written-requires : tie.Need-written-requires
 written-requires c κs =
-    let z = c.before.before.before.before in
+    let z = c.before.before.before.before.before in
     let d = z.before.before in
     let a = d.before.before.before.before.before.before.args in
-    (known-low a.system (is_one d.before), judged-is d, z.if2.false)
+    (known-low a.system (is_one d.before.before), judged-is d, z.if-j-ne0.false)
 
-same_length : tie.Need-same-length
+same_length : tie.Need-shape_of-sheet
 same_length c = search rules
 
 -- the rest
-returns-4 : tie.Need-returns-4
+returns-4 : tie.Need-returns
 returns-4 c =
     let v = c.before.before in
     let w = v.before.before.before in
-    let z = w.before.before in
+    let z = w.before.before.before in
     let d = z.before.before in
-    let f = d.before.before.before in
+    let f = d.before.before.before.before in
     let a = f.before.before.before.args in
-    let is = sym (last-is a.system f.figures-of.result f.figures-of.ensures) in
-    let after = v.written.new.1.1.1.1.0 in
+    let is = sym (last-is a.system f.figures_of-figures.result f.figures_of-figures.ensures) in
+    let after = v.written.new.sheet in
     answered a.system a.fi a.element.now a.sheet.now v.written.result after (bytes f)
-    (known-system a.system (judged a.system a.fi a.element.now) a.sheet.now v.written.result after (is_one d.before)
-    (all-allowed eight a.system a.fi a.element.now a.sheet.now d.judge.result (judged-is d) z.if2.false w.allowed.result
-    (w.allowed.ensures (found z) (system a.system) is) v.before.before.if3.false v.written.result after v.written.ensures))
+    (known-system a.system (judged a.system a.fi a.element.now) a.sheet.now v.written.result after (is_one d.before.before)
+    (all-allowed eight a.system a.fi a.element.now a.sheet.now d.judge-j.result (judged-is d) z.if-j-ne0.false w.allowed-k.result
+    (w.allowed-k.ensures (found z) (system a.system) is) v.before.before.if-k-n.false v.written.result after v.written.ensures))
 
 pub read_spec : {M : Type 1} → statement M
 read_spec =

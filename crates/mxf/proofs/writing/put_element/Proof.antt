@@ -21,40 +21,40 @@ room c =
     (omega arith, g.2)
 
 -- and it keeps its length
-long : (c : tie.After-put-head) → length c.put-head.new.1.0 ≡ length c.before.before.before.before.before.args.out.now
-long c = c.put-head.auto.1.0
+long : (c : tie.After-put_head) → length c.put_head.new.out ≡ length c.before.before.before.before.before.args.out.now
+long c = c.put_head.auto.out
 
-fits : (c : tie.After-slice-known2) → 22 ≤ length c.before.before.put-head.new.1.0
+fits : (c : tie.After-slice_known-2-1) → 22 ≤ length c.before.before.put_head.new.out
 fits c = let h = long c.before.before in let r = room c.before.before.before.before.before.before.before in omega arith
 
-put-head-requires : tie.Need-put-head-requires
+put-head-requires : tie.Need-put_head-requires
 put-head-requires c κs = room c.before.before.before.before
 
-sub-put-structures : tie.Need-overflow-sub-put-structures
+sub-put-structures : tie.Need-slice_bounds-put_structures-count
 sub-put-structures c = fits c
 
-part-put-structures-start : tie.Need-slice-bounds-put-structures-start
+part-put-structures-start : tie.Need-slice_bounds-put_structures-start
 part-put-structures-start c = fits c
 
-part-put-structures-end : tie.Need-slice-bounds-put-structures-end
+part-put-structures-end : tie.Need-slice_bounds-put_structures-end
 part-put-structures-end c = search rules
 
-put-structures-requires : tie.Need-put-structures-requires
+put-structures-requires : tie.Need-put_structures-requires
 put-structures-requires c κs =
     let t = c.before.before.before in
     let s = t.before.before.before.before.before in (
       s.requires.0,
       λ y ps h.
-          lent-long 22 t.put-head.new.1.0 (structures_by eights s.args.system (served s.args.system s.args.fi ps))
+          lent-long 22 t.put_head.new.out (structures_by eights s.args.system (served s.args.system s.args.fi ps))
           (long t ∙ element-room eights s.args.system (served s.args.system s.args.fi ps) _ (s.requires.1 y ps h).1),
     )
 
-same_length : tie.Need-same-length
+same_length : tie.Need-shape_of-out
 same_length c =
     let t = c.before.before.before.before.before.before in
-    let o = t.put-head.new.1.0 in
-    let r = c.before.before.put-structures in
-    part-kept 22 (length o - 22) o r.new.1.1.1.1.0 r.auto.1.1.1.1.0 ∙ long t
+    let o = t.put_head.new.out in
+    let r = c.before.before.put_structures in
+    part-kept 22 (length o - 22) o r.new.out r.auto.out ∙ long t
 
 returns : tie.Need-returns
 returns c = λ y ps h.
@@ -62,11 +62,11 @@ returns c = λ y ps h.
     let s = t.before.before.before.before.before in
     let a = s.args in
     let g = s.requires.1 y ps h in
-    element-put eights a.system a.packets (served a.system a.fi ps) a.out.now t.put-head.new.1.0 _ g.0 g.1
-    t.put-head.ensures (c.before.before.put-structures.ensures y ps h)
+    element-put eights a.system a.packets (served a.system a.fi ps) a.out.now t.put_head.new.out _ g.0 g.1
+    t.put_head.ensures (c.before.before.put_structures.ensures y ps h)
 
-pub put-element-spec : {M : Type 1} → statement M
-put-element-spec =
+pub put_element_spec : {M : Type 1} → statement M
+put_element_spec =
     tie.close
     (tie.spec
     put-head-requires

@@ -22,160 +22,160 @@ use Rattle.mxf.proofs.WritingLaws.{structure-next, eights}
 use Rattle.mxf.proofs.writing.put_structures.Statement.{statement}
 use Rattle.mxf.proofs.writing.put_structures.Tie as tie
 
-abbrev invariant-loop : tie.invariant-loop
+abbrev invariant-loop : tie.invariant-loop-k
 invariant-loop system fi ls ws out₀ wrapping k₀ at₀ o₀ out k at o =
     (2 * k ≤ length ls) × (at ≤ length ws) × (length out ≡ length out₀) × Structures eights system fi ls ws out k at o
 
-abbrev decreases-loop : tie.decreases-loop
+abbrev decreases-loop : tie.decreases-loop-k
 decreases-loop system fi ls ws out₀ wrapping k₀ at₀ o₀ out k at o = length ls - 2 * k
 
 -- in a turn the next packet stands in the sections
-inside : (c : tie.In-loop invariant-loop decreases-loop)
+inside : (c : tie.In-loop-k invariant-loop decreases-loop)
     → let a = c.before.before.before.before.before.before.args in
-    let at = c.before.loop.at in
-    (at + (low (get_or a.ws.now (at + 5) 0) + 7) ≤ length a.ws.now) × (2 * c.before.loop.k + 2 ≤ length a.ls.now)
+    let at = c.before.loop-k.at in
+    (at + (low (get_or a.ws.now (at + 5) 0) + 7) ≤ length a.ws.now) × (2 * c.before.loop-k.k + 2 ≤ length a.ls.now)
 inside c =
     let s = c.before.before.before.before.before.before.requires.0 in
-    structures-inside c.before.loop.invariant.3 c.loop-test.true s.system s.packets s.of
+    structures-inside c.before.loop-k.invariant.3 c.loop-k-test.true s.system s.packets s.of
 
 -- and where it is served, its structure in the buffer
-room : (c : tie.Then1 invariant-loop decreases-loop)
+room : (c : tie.Then-serves invariant-loop decreases-loop)
     → let d = c.before.before.before.before.before in
-    d.before.loop.o + (c.before.before.before.low_byte.result + 17) ≤ length d.before.loop.out
+    d.before.loop-k.o + (c.before.before.before.low_byte.result + 17) ≤ length d.before.loop-k.out
 room c =
     let d = c.before.before.before.before.before in
     let s = d.before.before.before.before.before.before.requires.0 in
     let h =
-    structures-room d.before.loop.invariant.3 d.loop-test.true c.before.before.before.low_byte.ensures c.before.serves.ensures
-    c.if1.true s.system s.packets s.of in
+    structures-room d.before.loop-k.invariant.3 d.loop-k-test.true c.before.before.before.low_byte.ensures c.before.serves.ensures
+    c.if-serves.true s.system s.packets s.of in
     omega arith
 
-wrapping-requires : tie.Need-wrapping-requires invariant-loop decreases-loop
+wrapping-requires : tie.Need-wrapping-wrapping-requires invariant-loop decreases-loop
 wrapping-requires c κs = search rules
 
-loop-holds : tie.Need-loop-init invariant-loop decreases-loop
+loop-holds : tie.Need-loop-k-init invariant-loop decreases-loop
 loop-holds c = (omega arith, omega arith, refl, structures-begin c.before.before.before.before.requires.1)
 
-mul-loop : tie.Need-overflow-mul-loop invariant-loop decreases-loop
+mul-loop : tie.Need-overflow_mul-k invariant-loop decreases-loop
 mul-loop c = search rules
 
-add-low-byte : tie.Need-overflow-add-low-byte invariant-loop decreases-loop
+add-low-byte : tie.Need-overflow_add-at invariant-loop decreases-loop
 add-low-byte c = search rules
 
-mul-low-byte : tie.Need-overflow-mul-low-byte invariant-loop decreases-loop
+mul-low-byte : tie.Need-offset_bounds-ws-at invariant-loop decreases-loop
 mul-low-byte c = search rules
 
-shared-slice-read-low-byte : tie.Need-shared-slice-read-low-byte invariant-loop decreases-loop
+shared-slice-read-low-byte : tie.Need-bounds-ws-at invariant-loop decreases-loop
 shared-slice-read-low-byte c = let h = inside c.before in omega arith
 
-low-byte-requires : tie.Need-low-byte-requires invariant-loop decreases-loop
+low-byte-requires : tie.Need-low_byte-requires invariant-loop decreases-loop
 low-byte-requires c κs = search rules
 
-add-end : tie.Need-overflow-add-end invariant-loop decreases-loop
+add-end : tie.Need-overflow_add-end invariant-loop decreases-loop
 add-end c = let h = inside c.before.before in omega arith
 
-add-end-2 : tie.Need-overflow-add-end-2 invariant-loop decreases-loop
+add-end-2 : tie.Need-overflow_add-end-in-loop-k invariant-loop decreases-loop
 add-end-2 c = let h = inside c.before.before in omega arith
 
-mul-flags : tie.Need-overflow-mul-flags invariant-loop decreases-loop
+mul-flags : tie.Need-overflow_mul-flags invariant-loop decreases-loop
 mul-flags c = search rules
 
-add-flags : tie.Need-overflow-add-flags invariant-loop decreases-loop
+add-flags : tie.Need-overflow_add-flags invariant-loop decreases-loop
 add-flags c = search rules
 
-mul-flags-2 : tie.Need-overflow-mul-flags-2 invariant-loop decreases-loop
+mul-flags-2 : tie.Need-offset_bounds-ls-k invariant-loop decreases-loop
 mul-flags-2 c = search rules
 
-shared-slice-read-flags : tie.Need-shared-slice-read-flags invariant-loop decreases-loop
+shared-slice-read-flags : tie.Need-bounds-ls-k invariant-loop decreases-loop
 shared-slice-read-flags c = let h = inside c.before.before.before in omega arith
 
 serves-requires : tie.Need-serves-requires invariant-loop decreases-loop
 serves-requires c κs = search rules
 
-mul-t23 : tie.Need-overflow-mul-t23 invariant-loop decreases-loop
+mul-t23 : tie.Need-overflow_mul-line invariant-loop decreases-loop
 mul-t23 c = search rules
 
-mul-t24 : tie.Need-overflow-mul-t24 invariant-loop decreases-loop
+mul-t24 : tie.Need-offset_bounds-ls-k-then-serves invariant-loop decreases-loop
 mul-t24 c = search rules
 
-shared-slice-read-t26 : tie.Need-shared-slice-read-t26 invariant-loop decreases-loop
+shared-slice-read-t26 : tie.Need-bounds-ls-k-then-serves invariant-loop decreases-loop
 shared-slice-read-t26 c = let h = inside c.before.before.before.before.before.before in omega arith
 
-sub-next : tie.Need-overflow-sub-next invariant-loop decreases-loop
+sub-next : tie.Need-overflow_sub-next invariant-loop decreases-loop
 sub-next c = search rules
 
-add-next : tie.Need-overflow-add-next invariant-loop decreases-loop
+add-next : tie.Need-overflow_add-next invariant-loop decreases-loop
 add-next c = search rules
 
-add-next-2 : tie.Need-overflow-add-next-2 invariant-loop decreases-loop
+add-next-2 : tie.Need-overflow_add-next-then-serves invariant-loop decreases-loop
 add-next-2 c = let h = room c.before in omega arith
 
-add-put-structure : tie.Need-overflow-add-put-structure invariant-loop decreases-loop
+add-put-structure : tie.Need-overflow_add-at-then-serves invariant-loop decreases-loop
 add-put-structure c = search rules
 
-mul-put-structure : tie.Need-overflow-mul-put-structure invariant-loop decreases-loop
+mul-put-structure : tie.Need-offset_bounds-ws-at-then-serves invariant-loop decreases-loop
 mul-put-structure c = search rules
 
-sub-put-structure : tie.Need-overflow-sub-put-structure invariant-loop decreases-loop
+sub-put-structure : tie.Need-slice_bounds-put_structure-count invariant-loop decreases-loop
 sub-put-structure c = let h = inside c.before.before.before.before.before.before in omega arith
 
-part-put-structure-start : tie.Need-slice-bounds-put-structure-start invariant-loop decreases-loop
+part-put-structure-start : tie.Need-slice_bounds-put_structure-start invariant-loop decreases-loop
 part-put-structure-start c = let h = inside c.before.before.before.before.before.before in omega arith
 
-part-put-structure-end : tie.Need-slice-bounds-put-structure-end invariant-loop decreases-loop
+part-put-structure-end : tie.Need-slice_bounds-put_structure-end invariant-loop decreases-loop
 part-put-structure-end c = let h = inside c.before.before.before.before.before.before in omega arith
 
-sub-put-structure-2 : tie.Need-overflow-sub-put-structure-2 invariant-loop decreases-loop
+sub-put-structure-2 : tie.Need-slice_bounds-put_structure-count-then-serves invariant-loop decreases-loop
 sub-put-structure-2 c = let h = room c.before.before in omega arith
 
-part-put-structure-start-2 : tie.Need-slice-bounds-put-structure-start-2 invariant-loop decreases-loop
+part-put-structure-start-2 : tie.Need-slice_bounds-put_structure-start-then-serves invariant-loop decreases-loop
 part-put-structure-start-2 c = let h = room c.before.before in omega arith
 
-part-put-structure-end-2 : tie.Need-slice-bounds-put-structure-end-2 invariant-loop decreases-loop
+part-put-structure-end-2 : tie.Need-slice_bounds-put_structure-end-then-serves invariant-loop decreases-loop
 part-put-structure-end-2 c = let h = room c.before.before in omega arith
 
-put-structure-requires : tie.Need-put-structure-requires invariant-loop decreases-loop
+put-structure-requires : tie.Need-put_structure-requires invariant-loop decreases-loop
 put-structure-requires c κs = search rules
 
-add_at : tie.Need-overflow-add-at invariant-loop decreases-loop
+add_at : tie.Need-overflow_add-at-in-loop-k invariant-loop decreases-loop
 add_at c = let h = inside c.before.before.before.before.before in omega arith
 
-add-k : tie.Need-overflow-add-k invariant-loop decreases-loop
+add-k : tie.Need-overflow_add-k invariant-loop decreases-loop
 add-k c = search rules
 
-loop-less : tie.Need-loop-smaller invariant-loop decreases-loop
+loop-less : tie.Need-loop-k-smaller invariant-loop decreases-loop
 loop-less c = search rules
 
-loop-again : tie.Need-loop-preserved invariant-loop decreases-loop
+loop-again : tie.Need-loop-k-preserved invariant-loop decreases-loop
 loop-again c =
     let d = c.before.before.before.before.before in
     let h = inside d in
     let size = c.before.before.before.low_byte.ensures in
     let is = c.before.serves.ensures in
-    let so = d.before.loop.invariant.3 in
-    let w = d.before.before.wrapping.ensures in (
+    let so = d.before.loop-k.invariant.3 in
+    let w = d.before.before.wrapping-wrapping.ensures in (
       omega arith,
       omega arith,
       ⊎_elim
-          (λ v. structures-kept so v.4.last.1.1.1.1.0 v.7 v.8 v.4.kept.1.1.1.1.0 ∙ d.before.loop.invariant.2)
-          (λ v. ap length v.1 ∙ d.before.loop.invariant.2)
-          c.if1.branch,
+          (λ v. structures-kept so v.put_structure.new.out v.out-is v.o-is v.put_structure.auto.out ∙ d.before.loop-k.invariant.2)
+          (λ v. ap length v.out-is ∙ d.before.loop-k.invariant.2)
+          c.if-serves.branch-raw,
       ⊎_elim
           (λ v.
-          structures-taken so d.loop-test.true size is v.0.taken (omega arith)
-          (structure-next _ d.before.loop.k size w refl v.4.ensures) v.7 v.8 (omega arith) v.4.kept.1.1.1.1.0)
-          (λ v. structures-left so d.loop-test.true size is v.0.left (omega arith) v.1 v.2)
-          c.if1.branch,
+          structures-taken so d.loop-k-test.true size is v.if-serves.true (omega arith)
+          (structure-next _ d.before.loop-k.k size w refl v.put_structure.ensures) v.out-is v.o-is (omega arith) v.put_structure.auto.out)
+          (λ v. structures-left so d.loop-k-test.true size is v.if-serves.false (omega arith) v.out-is v.o-is)
+          c.if-serves.branch-raw,
     )
 
-same_length : tie.Need-same-length invariant-loop decreases-loop
-same_length c = c.before.loop.invariant.2
+same_length : tie.Need-shape_of-out invariant-loop decreases-loop
+same_length c = c.before.loop-k.invariant.2
 
 returns : tie.Need-returns invariant-loop decreases-loop
-returns c = structures-done c.before.loop.invariant.3 c.loop-test.false
+returns c = structures-done c.before.loop-k.invariant.3 c.loop-k-test.false
 
-pub put-structures-spec : {M : Type 1} → statement M
-put-structures-spec =
+pub put_structures_spec : {M : Type 1} → statement M
+put_structures_spec =
     tie.close
     (tie.spec
     invariant-loop

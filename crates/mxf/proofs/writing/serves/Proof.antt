@@ -5,17 +5,17 @@ use Rattle.mxf.specs.Served.{serves}
 use Rattle.mxf.proofs.writing.serves.Statement.{statement}
 use Rattle.mxf.proofs.writing.serves.Tie as tie
 
-returns : tie.Need-returns
+returns : tie.Need-returns-then-system-ne3
 unfolding progressive serves
-returns c = rw (ne_eqb _ 3 c.if1.true)
+returns c = rw (ne_eqb _ 3 c.if-system-ne3.true)
 
-returns-2 : tie.Need-returns-2
+returns-2 : tie.Need-returns-then-fi
 unfolding progressive serves
-returns-2 c = rw (eq-eqb _ 3 c.before.if1.false, c.if2.true)
+returns-2 c = rw (eq-eqb _ 3 c.before.if-system-ne3.false, c.if-fi.true)
 
-returns-3 : tie.Need-returns-3
+returns-3 : tie.Need-returns
 unfolding progressive serves
-returns-3 c = rw (eq-eqb _ 3 c.before.if1.false, c.if2.false)
+returns-3 c = rw (eq-eqb _ 3 c.before.if-system-ne3.false, c.if-fi.false)
 
-pub serves-spec : {M : Type 1} → statement M
-serves-spec = tie.close (tie.spec returns returns-2 returns-3)
+pub serves_spec : {M : Type 1} → statement M
+serves_spec = tie.close (tie.spec returns returns-2 returns-3)

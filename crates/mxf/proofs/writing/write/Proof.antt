@@ -8,38 +8,38 @@ use Rattle.mxf.proofs.writing.write.Statement.{statement}
 use Rattle.mxf.proofs.writing.write.Tie as tie
 
 -- the sheet is lent as sixteen-bit numbers
-sixteen : (c : tie.After-shared-slice-known) → Sixteen c.before.args.sheet.now
-sixteen c i = (c.shared-slice-known.given i).fits
+sixteen : (c : tie.After-shared_slice_known-1) → Sixteen c.before.args.sheet.now
+sixteen c i = (c.shared_slice_known-1.given i).fits
 
-test-requires : tie.Need-test-requires
+test-requires : tie.Need-test-t-requires
 test-requires c κs = search rules
 
 refusal-requires : tie.Need-refusal-requires
 refusal-requires c κs = search rules
 
-returns : tie.Need-returns
+returns : tie.Need-returns-then-t-ne0
 returns c =
     let t = c.before.before.before in
     let a = t.before.before.before.args in
-    let n = lister-named a.sheet.now t.test.result t.test.ensures in
-    let e = no-sheet eights a.fi a.sheet.now a.element.now _ _ _ n _ c.before.if1.true c.refusal.ensures in
+    let n = lister-named a.sheet.now t.test-t.result t.test-t.ensures in
+    let e = no-sheet eights a.fi a.sheet.now a.element.now _ _ _ n _ c.before.if-t-ne0.true c.refusal.ensures in
     writes a.fi a.sheet.now a.element.now _ _ (sixteen t.before.before) e
 
-write-list-requires : tie.Need-write-list-requires
+write-list-requires : tie.Need-write_list-requires
 write-list-requires c κs =
     let t = c.before.before.before in
-    sheet-of _ _ t.test.ensures c.before.if1.false
+    sheet-of _ _ t.test-t.ensures c.before.if-t-ne0.false
 
-same_length : tie.Need-same-length
+same_length : tie.Need-shape_of-element
 same_length c = search rules
 
-returns-2 : tie.Need-returns-2
+returns-2 : tie.Need-returns
 returns-2 c =
     let e = c.before.before.before.before in
     let t = e.before.before in
     let a = t.before.before.before.args in
-    let o = sheet-of _ _ t.test.ensures e.if1.false in
-    let w = the-list eights a.fi a.sheet.now a.element.now _ o _ _ c.before.before.write-list.ensures in
+    let o = sheet-of _ _ t.test-t.ensures e.if-t-ne0.false in
+    let w = the-list eights a.fi a.sheet.now a.element.now _ o _ _ c.before.before.write_list.ensures in
     writes a.fi a.sheet.now a.element.now _ _ (sixteen t.before.before) w
 
 pub write_spec : {M : Type 1} → statement M

@@ -14,105 +14,105 @@ use Rattle.mxf10.proofs.Samples.{packet-long}
 use Rattle.mxf10.proofs.judging.judge_structures.Statement.{statement}
 use Rattle.mxf10.proofs.judging.judge_structures.Tie as tie
 
-abbrev invariant-loop : tie.invariant-loop
+abbrev invariant-loop : tie.invariant-loop-k
 invariant-loop system last n s k₀ at₀ numbers₀ k at numbers = BegunAs ten system last.0 n s k at numbers
 
-abbrev decreases-loop : tie.decreases-loop
+abbrev decreases-loop : tie.decreases-loop-k
 decreases-loop system last n s k₀ at₀ numbers₀ k at numbers = n - k
 
 -- a structure that passed its tests
-module _ (c : tie.Else1 invariant-loop decreases-loop) where
+module _ (c : tie.Else-fault-ne0 invariant-loop decreases-loop) where
   abbrev s : List ℕ
   s = c.before.before.before.before.before.before.args.s.now
 
   abbrev at : ℕ
-  at = c.before.before.before.before.loop.at
+  at = c.before.before.before.before.loop-k.at
 
   passed : Whole ten (take (length s - at) (drop at s))
-  passed = c.before.structure-fault.ensures.1 c.if1.false
+  passed = c.before.structure_fault-fault.ensures.1 c.if-fault-ne0.false
 
   there : at + (14 + four_in s (at + 6)) ≤ length s
-  there = all_there ten at s passed c.before.before.before.before.loop.invariant.inside
+  there = all_there ten at s passed c.before.before.before.before.loop-k.invariant.inside
 
   samples : two_in s (at + 4) ≤ four_in s (at + 6)
   samples = let l = samples-there ten at s passed in omega arith
 
-loop-holds : tie.Need-loop-init invariant-loop decreases-loop
+loop-holds : tie.Need-loop-k-init invariant-loop decreases-loop
 loop-holds c =
     let a = c.before.args in
     record { few = omega arith; inside = omega arith; short = omega arith; same = λ e fi. at_first ten a.system fi a.n a.s.now }
 
-add-structure-fault : tie.Need-overflow-add-structure-fault invariant-loop decreases-loop
+add-structure-fault : tie.Need-overflow_add-at invariant-loop decreases-loop
 add-structure-fault c = search rules
 
-sub-structure-fault : tie.Need-overflow-sub-structure-fault invariant-loop decreases-loop
+sub-structure-fault : tie.Need-slice_bounds-structure_fault-count invariant-loop decreases-loop
 sub-structure-fault c = search rules
 
-part-structure-fault-start : tie.Need-slice-bounds-structure-fault-start invariant-loop decreases-loop
+part-structure-fault-start : tie.Need-slice_bounds-structure_fault-start invariant-loop decreases-loop
 part-structure-fault-start c = search rules
 
-part-structure-fault-end : tie.Need-slice-bounds-structure-fault-end invariant-loop decreases-loop
+part-structure-fault-end : tie.Need-slice_bounds-structure_fault-end invariant-loop decreases-loop
 part-structure-fault-end c = search rules
 
-structure-fault-requires : tie.Need-structure-fault-requires invariant-loop decreases-loop
+structure-fault-requires : tie.Need-structure_fault-fault-requires invariant-loop decreases-loop
 structure-fault-requires c κs = search rules
 
 refusal-requires : tie.Need-refusal-requires invariant-loop decreases-loop
 refusal-requires c κs = search rules
 
-returns : tie.Need-returns invariant-loop decreases-loop
+returns : tie.Need-returns-then-fault-ne0 invariant-loop decreases-loop
 returns c =
     let f = c.before.before in
-    let l = f.before.before.before.loop in
+    let l = f.before.before.before.loop-k in
     let a = f.before.before.before.before.before.args in
     λ e fi.
     c.refusal.ensures
-    ∙ at-fault ten a.system fi a.n l.k l.at l.numbers a.s.now f.before.before.loop-test.true _
-    (f.structure-fault.ensures.0 e) c.before.if1.true
+    ∙ at-fault ten a.system fi a.n l.k l.at l.numbers a.s.now f.before.before.loop-k-test.true _
+    (f.structure_fault-fault.ensures.0 e) c.before.if-fault-ne0.true
     ∙ l.invariant.same e fi
 
-add-two : tie.Need-overflow-add-two invariant-loop decreases-loop
+add-two : tie.Need-overflow_add-at-in-loop-k invariant-loop decreases-loop
 add-two c = search rules
 
 two-requires : tie.Need-two-requires invariant-loop decreases-loop
 two-requires c κs = let l = there c in omega arith
 
-add-numbers : tie.Need-overflow-add-numbers invariant-loop decreases-loop
+add-numbers : tie.Need-overflow_add-numbers invariant-loop decreases-loop
 add-numbers c = search rules
 
-add-numbers-2 : tie.Need-overflow-add-numbers-2 invariant-loop decreases-loop
+add-numbers-2 : tie.Need-overflow_add-numbers-in-loop-k invariant-loop decreases-loop
 add-numbers-2 c =
     let l = there c.before in
     let m = samples c.before in
     let f = c.two.ensures.0 in
     omega arith
 
-add-four : tie.Need-overflow-add-four invariant-loop decreases-loop
+add-four : tie.Need-overflow_add-at-in-loop-k-2 invariant-loop decreases-loop
 add-four c = search rules
 
 four-requires : tie.Need-four-requires invariant-loop decreases-loop
 four-requires c κs = let l = there c.before in omega arith
 
-add_at : tie.Need-overflow-add-at invariant-loop decreases-loop
+add_at : tie.Need-overflow_add-at-in-loop-k-3 invariant-loop decreases-loop
 add_at c = search rules
 
-add-at-2 : tie.Need-overflow-add-at-2 invariant-loop decreases-loop
+add-at-2 : tie.Need-overflow_add-at-in-loop-k-4 invariant-loop decreases-loop
 add-at-2 c =
     let l = there c.before.before in
     let f = c.four.ensures.0 in
     omega arith
 
-add-k : tie.Need-overflow-add-k invariant-loop decreases-loop
+add-k : tie.Need-overflow_add-k invariant-loop decreases-loop
 add-k c = search rules
 
-loop-less : tie.Need-loop-smaller invariant-loop decreases-loop
+loop-less : tie.Need-loop-k-smaller invariant-loop decreases-loop
 loop-less c = search rules
 
-loop-again : tie.Need-loop-preserved invariant-loop decreases-loop
+loop-again : tie.Need-loop-k-preserved invariant-loop decreases-loop
 loop-again c =
-    let b : tie.Else1 invariant-loop decreases-loop = c.before.before in
+    let b : tie.Else-fault-ne0 invariant-loop decreases-loop = c.before.before in
     let f = b.before in
-    let l = f.before.before.before.loop in
+    let l = f.before.before.before.loop-k in
     let a = f.before.before.before.before.before.args in
     let d = c.before.two.ensures.0 in
     let g = c.four.ensures.0 in
@@ -124,37 +124,37 @@ loop-again c =
       inside = omega arith;
       short = omega arith;
       same = λ e fi.
-          at_next ten a.system fi a.n l.k l.at l.numbers a.s.now f.before.before.loop-test.true _
-          (f.structure-fault.ensures.0 e) b.if1.false
+          at_next ten a.system fi a.n l.k l.at l.numbers a.s.now f.before.before.loop-k-test.true _
+          (f.structure_fault-fault.ensures.0 e) b.if-fault-ne0.false
           3 (packet-long a.system fi (drop l.at a.s.now) (whole ten l.at a.s.now (passed b))) _ _ d g
           ∙ i.same e fi;
     }
 
-add-refusal : tie.Need-overflow-add-refusal invariant-loop decreases-loop
+add-refusal : tie.Need-overflow_add-at-then-at-s invariant-loop decreases-loop
 add-refusal c = search rules
 
-refusal-requires-2 : tie.Need-refusal-requires-2 invariant-loop decreases-loop
+refusal-requires-2 : tie.Need-refusal-requires-then-at-s invariant-loop decreases-loop
 refusal-requires-2 c κs = search rules
 
-returns-2 : tie.Need-returns-2 invariant-loop decreases-loop
+returns-2 : tie.Need-returns-then-at-s invariant-loop decreases-loop
 returns-2 c =
-    let l = c.before.before.before.loop in
+    let l = c.before.before.before.loop-k in
     let a = c.before.before.before.before.before.args in
     λ e fi.
-    c.refusal2.ensures
+    c.refusal-then-at-s.ensures
     ∙ at-surplus ten a.system fi a.n l.k l.at l.numbers a.s.now (omega arith) (omega arith)
     ∙ l.invariant.same e fi
 
-returns-3 : tie.Need-returns-3 invariant-loop decreases-loop
+returns-3 : tie.Need-returns invariant-loop decreases-loop
 returns-3 c =
-    let l = c.before.before.loop in
+    let l = c.before.before.loop-k in
     let a = c.before.before.before.before.args in
     λ e fi.
     at-end ten a.system fi a.n l.k l.at l.numbers a.s.now (omega arith) (omega arith)
     ∙ l.invariant.same e fi
 
-pub judge-structures-spec : {M : Type 1} → statement M
-judge-structures-spec =
+pub judge_structures_spec : {M : Type 1} → statement M
+judge_structures_spec =
     tie.close
     (tie.spec
     invariant-loop

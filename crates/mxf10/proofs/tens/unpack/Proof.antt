@@ -13,20 +13,20 @@ use Rattle.mxf10.proofs.TensLaws.{unpack-all, unpack-turn, unpack-two, unpack-on
 use Rattle.mxf10.proofs.tens.unpack.Statement.{statement}
 use Rattle.mxf10.proofs.tens.unpack.Tie as tie
 
-abbrev invariant-loop : tie.invariant-loop
+abbrev invariant-loop : tie.invariant-loop-i
 invariant-loop s out₀ i₀ o₀ out i o =
     (i ≤ length out₀)
     × (length out ≡ length out₀)
     × (o + array_for ten (length out₀ - i) ≤ length s)
     × (sets out i (take (length out₀ - i) (samples_in (drop o s))) ≡ take (length out₀) (samples_in s))
 
-abbrev decreases-loop : tie.decreases-loop
+abbrev decreases-loop : tie.decreases-loop-i
 decreases-loop s out₀ i₀ o₀ out i o = length out₀ - i
 
-bytes : (c : tie.After-shared-slice-known invariant-loop decreases-loop) → Bytes c.before.args.s.now
-bytes c i = omega (arith, c.shared-slice-known.given i)
+bytes : (c : tie.After-shared_slice_known-1 invariant-loop decreases-loop) → Bytes c.before.args.s.now
+bytes c i = omega (arith, c.shared_slice_known-1.given i)
 
-loop-holds : tie.Need-loop-init invariant-loop decreases-loop
+loop-holds : tie.Need-loop-i-init invariant-loop decreases-loop
 loop-holds c =
     let a = c.before.before in
     let n = length a.args.out.now in
@@ -34,98 +34,98 @@ loop-holds c =
     let h = a.requires in
     (omega arith, refl, omega arith, unpack-all a.args.s.now a.args.out.now n (n - 0) refl z h)
 
-add-loop : tie.Need-overflow-add-loop invariant-loop decreases-loop
+add-loop : tie.Need-overflow_add-i invariant-loop decreases-loop
 add-loop c = search rules
 
-shared-slice-read-first : tie.Need-shared-slice-read-first invariant-loop decreases-loop
+shared-slice-read-first : tie.Need-bounds-s-o invariant-loop decreases-loop
 shared-slice-read-first c = search rules
 
-add-first : tie.Need-overflow-add-first invariant-loop decreases-loop
+add-first : tie.Need-overflow_add-o invariant-loop decreases-loop
 add-first c = search rules
 
-shared-slice-read-first-2 : tie.Need-shared-slice-read-first-2 invariant-loop decreases-loop
+shared-slice-read-first-2 : tie.Need-bounds-s-o-in-loop-i invariant-loop decreases-loop
 shared-slice-read-first-2 c = search rules
 
 first-requires : tie.Need-first-requires invariant-loop decreases-loop
 first-requires c κs = search rules
 
-mul-out : tie.Need-overflow-mul-out invariant-loop decreases-loop
+mul-out : tie.Need-offset_bounds-out-i invariant-loop decreases-loop
 mul-out c = search rules
 
-slice-write-out : tie.Need-slice-write-out invariant-loop decreases-loop
+slice-write-out : tie.Need-bounds-out-i invariant-loop decreases-loop
 slice-write-out c = search rules
 
-add-second : tie.Need-overflow-add-second invariant-loop decreases-loop
+add-second : tie.Need-overflow_add-o-in-loop-i invariant-loop decreases-loop
 add-second c = search rules
 
-shared-slice-read-second : tie.Need-shared-slice-read-second invariant-loop decreases-loop
+shared-slice-read-second : tie.Need-bounds-s-o-in-loop-i-2 invariant-loop decreases-loop
 shared-slice-read-second c = search rules
 
-add-second-2 : tie.Need-overflow-add-second-2 invariant-loop decreases-loop
+add-second-2 : tie.Need-overflow_add-o-in-loop-i-2 invariant-loop decreases-loop
 add-second-2 c = search rules
 
-shared-slice-read-second-2 : tie.Need-shared-slice-read-second-2 invariant-loop decreases-loop
+shared-slice-read-second-2 : tie.Need-bounds-s-o-in-loop-i-3 invariant-loop decreases-loop
 shared-slice-read-second-2 c = search rules
 
 second-requires : tie.Need-second-requires invariant-loop decreases-loop
 second-requires c κs = search rules
 
-add-out : tie.Need-overflow-add-out invariant-loop decreases-loop
+add-out : tie.Need-overflow_add-out invariant-loop decreases-loop
 add-out c = search rules
 
-mul-out-2 : tie.Need-overflow-mul-out-2 invariant-loop decreases-loop
+mul-out-2 : tie.Need-offset_bounds-out-i-in-loop-i invariant-loop decreases-loop
 mul-out-2 c = search rules
 
-slice-write-out-2 : tie.Need-slice-write-out-2 invariant-loop decreases-loop
+slice-write-out-2 : tie.Need-bounds-out-i-in-loop-i invariant-loop decreases-loop
 slice-write-out-2 c =
-    let l = c.before.before.before.before.before.before.before.loop.invariant.1 in
-    let h = c.before.before.before.before.before.before.loop-test.true in
+    let l = c.before.before.before.before.before.before.before.loop-i.invariant.1 in
+    let h = c.before.before.before.before.before.before.loop-i-test.true in
     simp length-set (omega arith)
 
-add-third : tie.Need-overflow-add-third invariant-loop decreases-loop
+add-third : tie.Need-overflow_add-o-in-loop-i-3 invariant-loop decreases-loop
 add-third c = search rules
 
-shared-slice-read-third : tie.Need-shared-slice-read-third invariant-loop decreases-loop
+shared-slice-read-third : tie.Need-bounds-s-o-in-loop-i-4 invariant-loop decreases-loop
 shared-slice-read-third c = search rules
 
-add-third-2 : tie.Need-overflow-add-third-2 invariant-loop decreases-loop
+add-third-2 : tie.Need-overflow_add-o-in-loop-i-4 invariant-loop decreases-loop
 add-third-2 c = search rules
 
-shared-slice-read-third-2 : tie.Need-shared-slice-read-third-2 invariant-loop decreases-loop
+shared-slice-read-third-2 : tie.Need-bounds-s-o-in-loop-i-5 invariant-loop decreases-loop
 shared-slice-read-third-2 c = search rules
 
 third-requires : tie.Need-third-requires invariant-loop decreases-loop
 third-requires c κs = search rules
 
-add-out-2 : tie.Need-overflow-add-out-2 invariant-loop decreases-loop
+add-out-2 : tie.Need-overflow_add-out-in-loop-i invariant-loop decreases-loop
 add-out-2 c = search rules
 
-mul-out-3 : tie.Need-overflow-mul-out-3 invariant-loop decreases-loop
+mul-out-3 : tie.Need-offset_bounds-out-i-in-loop-i-2 invariant-loop decreases-loop
 mul-out-3 c = search rules
 
-slice-write-out-3 : tie.Need-slice-write-out-3 invariant-loop decreases-loop
+slice-write-out-3 : tie.Need-bounds-out-i-in-loop-i-2 invariant-loop decreases-loop
 slice-write-out-3 c =
-    let l = c.before.before.before.before.before.before.before.before.before.before.loop.invariant.1 in
-    let h = c.before.before.before.before.before.before.before.before.before.loop-test.true in
+    let l = c.before.before.before.before.before.before.before.before.before.before.loop-i.invariant.1 in
+    let h = c.before.before.before.before.before.before.before.before.before.loop-i-test.true in
     simp length-set (omega arith)
 
-add-i : tie.Need-overflow-add-i invariant-loop decreases-loop
+add-i : tie.Need-overflow_add-i-in-loop-i invariant-loop decreases-loop
 add-i c = search rules
 
-add-o : tie.Need-overflow-add-o invariant-loop decreases-loop
+add-o : tie.Need-overflow_add-o-in-loop-i-5 invariant-loop decreases-loop
 add-o c = search rules
 
-loop-less : tie.Need-loop-smaller invariant-loop decreases-loop
+loop-less : tie.Need-loop-i-smaller invariant-loop decreases-loop
 loop-less c = search rules
 
-loop-again : tie.Need-loop-preserved invariant-loop decreases-loop
+loop-again : tie.Need-loop-i-preserved invariant-loop decreases-loop
 loop-again c =
     let y = c.before.before.before in
     let x = y.before.before.before in
     let t = x.before.before.before in
-    let d = t.before.loop in
+    let d = t.before.loop-i in
     let k = t.before.before.before in
-    let h = t.loop-test.true in
+    let h = t.loop-i-test.true in
     let l = d.invariant.1 in
     let v = d.invariant.2 in (
       omega arith,
@@ -135,120 +135,120 @@ loop-again c =
           x.first.ensures y.second.ensures c.third.ensures (omega arith),
     )
 
-add-if1 : tie.Need-overflow-add-if1 invariant-loop decreases-loop
+add-if1 : tie.Need-overflow_add-i-2 invariant-loop decreases-loop
 add-if1 c = search rules
 
-shared-slice-read-first-3 : tie.Need-shared-slice-read-first-3 invariant-loop decreases-loop
+shared-slice-read-first-3 : tie.Need-bounds-s-o-then-i-out invariant-loop decreases-loop
 shared-slice-read-first-3 c = search rules
 
-add-first-2 : tie.Need-overflow-add-first-2 invariant-loop decreases-loop
+add-first-2 : tie.Need-overflow_add-o-then-i-out invariant-loop decreases-loop
 add-first-2 c = search rules
 
-shared-slice-read-first-4 : tie.Need-shared-slice-read-first-4 invariant-loop decreases-loop
+shared-slice-read-first-4 : tie.Need-bounds-s-o-then-i-out-2 invariant-loop decreases-loop
 shared-slice-read-first-4 c = search rules
 
-first-requires-2 : tie.Need-first-requires-2 invariant-loop decreases-loop
+first-requires-2 : tie.Need-first-requires-then-i-out invariant-loop decreases-loop
 first-requires-2 c κs = search rules
 
-mul-out-4 : tie.Need-overflow-mul-out-4 invariant-loop decreases-loop
+mul-out-4 : tie.Need-offset_bounds-out-i-then-i-out invariant-loop decreases-loop
 mul-out-4 c = search rules
 
-slice-write-out-4 : tie.Need-slice-write-out-4 invariant-loop decreases-loop
+slice-write-out-4 : tie.Need-bounds-out-i-then-i-out invariant-loop decreases-loop
 slice-write-out-4 c = search rules
 
-add-second-3 : tie.Need-overflow-add-second-3 invariant-loop decreases-loop
+add-second-3 : tie.Need-overflow_add-o-then-i-out-2 invariant-loop decreases-loop
 add-second-3 c = search rules
 
-shared-slice-read-second-3 : tie.Need-shared-slice-read-second-3 invariant-loop decreases-loop
+shared-slice-read-second-3 : tie.Need-bounds-s-o-then-i-out-3 invariant-loop decreases-loop
 shared-slice-read-second-3 c = search rules
 
-add-second-4 : tie.Need-overflow-add-second-4 invariant-loop decreases-loop
+add-second-4 : tie.Need-overflow_add-o-then-i-out-3 invariant-loop decreases-loop
 add-second-4 c = search rules
 
-shared-slice-read-second-4 : tie.Need-shared-slice-read-second-4 invariant-loop decreases-loop
+shared-slice-read-second-4 : tie.Need-bounds-s-o-then-i-out-4 invariant-loop decreases-loop
 shared-slice-read-second-4 c = search rules
 
-second-requires-2 : tie.Need-second-requires-2 invariant-loop decreases-loop
+second-requires-2 : tie.Need-second-requires-then-i-out invariant-loop decreases-loop
 second-requires-2 c κs = search rules
 
-add-out-3 : tie.Need-overflow-add-out-3 invariant-loop decreases-loop
+add-out-3 : tie.Need-overflow_add-out-then-i-out invariant-loop decreases-loop
 add-out-3 c = search rules
 
-mul-out-5 : tie.Need-overflow-mul-out-5 invariant-loop decreases-loop
+mul-out-5 : tie.Need-offset_bounds-out-i-then-i-out-2 invariant-loop decreases-loop
 mul-out-5 c = search rules
 
-slice-write-out-5 : tie.Need-slice-write-out-5 invariant-loop decreases-loop
+slice-write-out-5 : tie.Need-bounds-out-i-then-i-out-2 invariant-loop decreases-loop
 slice-write-out-5 c =
-    let l = c.before.before.before.before.before.before.before.before.loop.invariant.1 in
-    let h = c.before.before.before.before.before.before.if1.true in
+    let l = c.before.before.before.before.before.before.before.before.loop-i.invariant.1 in
+    let h = c.before.before.before.before.before.before.if-i-out.true in
     simp length-set (omega arith)
 
-same_length : tie.Need-same-length invariant-loop decreases-loop
+same_length : tie.Need-shape_of-out-then-i-out invariant-loop decreases-loop
 same_length c = search rules
 
-returns : tie.Need-returns invariant-loop decreases-loop
+returns : tie.Need-returns-then-i-out invariant-loop decreases-loop
 returns c =
     let x = c.before.before.before in
     let t = x.before.before.before in
-    let d = t.before.before.loop in
+    let d = t.before.before.loop-i in
     let k = t.before.before.before.before in
-    let h = t.if1.true in
+    let h = t.if-i-out.true in
     let l = d.invariant.1 in
     let v = d.invariant.2 in
     unpack-two k.before.args.s.now d.out _ _ d.i d.o (bytes k) d.invariant.3 (omega arith) _ _
-    x.first2.ensures c.second2.ensures (omega arith)
+    x.first-then-i-out.ensures c.second-then-i-out.ensures (omega arith)
 
-add-if2 : tie.Need-overflow-add-if2 invariant-loop decreases-loop
+add-if2 : tie.Need-overflow_add-i-3 invariant-loop decreases-loop
 add-if2 c = search rules
 
-shared-slice-read-first-5 : tie.Need-shared-slice-read-first-5 invariant-loop decreases-loop
+shared-slice-read-first-5 : tie.Need-bounds-s-o-then-i-out-2-2 invariant-loop decreases-loop
 shared-slice-read-first-5 c = search rules
 
-add-first-3 : tie.Need-overflow-add-first-3 invariant-loop decreases-loop
+add-first-3 : tie.Need-overflow_add-o-then-i-out-2-2 invariant-loop decreases-loop
 add-first-3 c = search rules
 
-shared-slice-read-first-6 : tie.Need-shared-slice-read-first-6 invariant-loop decreases-loop
+shared-slice-read-first-6 : tie.Need-bounds-s-o-then-i-out-2-3 invariant-loop decreases-loop
 shared-slice-read-first-6 c = search rules
 
-first-requires-3 : tie.Need-first-requires-3 invariant-loop decreases-loop
+first-requires-3 : tie.Need-first-requires-then-i-out-2 invariant-loop decreases-loop
 first-requires-3 c κs = search rules
 
-mul-out-6 : tie.Need-overflow-mul-out-6 invariant-loop decreases-loop
+mul-out-6 : tie.Need-offset_bounds-out-i-then-i-out-2-2 invariant-loop decreases-loop
 mul-out-6 c = search rules
 
-slice-write-out-6 : tie.Need-slice-write-out-6 invariant-loop decreases-loop
+slice-write-out-6 : tie.Need-bounds-out-i-then-i-out-2-2 invariant-loop decreases-loop
 slice-write-out-6 c = search rules
 
-same-length-2 : tie.Need-same-length-2 invariant-loop decreases-loop
+same-length-2 : tie.Need-shape_of-out-then-i-out-2 invariant-loop decreases-loop
 same-length-2 c = search rules
 
-returns-2 : tie.Need-returns-2 invariant-loop decreases-loop
+returns-2 : tie.Need-returns-then-i-out-2 invariant-loop decreases-loop
 returns-2 c =
     let t = c.before.before.before in
-    let d = t.before.before.before.loop in
+    let d = t.before.before.before.loop-i in
     let k = t.before.before.before.before.before in
-    let h = t.if2.true in
+    let h = t.if-i-out-2.true in
     let l = d.invariant.1 in
     let v = d.invariant.2 in
     unpack-one k.before.args.s.now d.out _ _ d.i d.o (bytes k) d.invariant.3 (omega arith) _
-    c.first3.ensures (omega arith)
+    c.first-then-i-out-2.ensures (omega arith)
 
-same-length-3 : tie.Need-same-length-3 invariant-loop decreases-loop
+same-length-3 : tie.Need-shape_of-out-else-i-out-2 invariant-loop decreases-loop
 same-length-3 c = search rules
 
-returns-3 : tie.Need-returns-3 invariant-loop decreases-loop
+returns-3 : tie.Need-returns-else-i-out-2 invariant-loop decreases-loop
 returns-3 c =
     let t = c.before.before in
-    let d = t.before.loop in
-    let x = t.loop-test.false in
-    let y = c.before.if1.false in
-    let z = c.if2.false in
+    let d = t.before.loop-i in
+    let x = t.loop-i-test.false in
+    let y = c.before.if-i-out.false in
+    let z = c.if-i-out-2.false in
     let l = d.invariant.1 in
     let k = d.invariant.0 in
     unpack-none t.before.before.before.before.args.s.now d.out _ _ d.i d.o d.invariant.3 (omega arith)
 
-pub unpack-spec : {M : Type 1} → statement M
-unpack-spec =
+pub unpack_spec : {M : Type 1} → statement M
+unpack_spec =
     tie.close
     (tie.spec
     invariant-loop

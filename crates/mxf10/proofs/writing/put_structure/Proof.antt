@@ -13,28 +13,28 @@ use Rattle.mxf10.proofs.TensLaws.{tens-length}
 use Rattle.mxf10.proofs.writing.put_structure.Statement.{statement}
 use Rattle.mxf10.proofs.writing.put_structure.Tie as tie
 
-coding-of-requires : tie.Need-coding-of-requires
+coding-of-requires : tie.Need-coding_of-requires
 coding-of-requires c κs = search rules
 
-cast-put-fields : tie.Need-overflow-cast-put-fields
+cast-put-fields : tie.Need-overflow_cast-samples
 cast-put-fields c = search rules
 
-array-bytes-requires : tie.Need-array-bytes-requires
+array-bytes-requires : tie.Need-array_bytes-requires
 array-bytes-requires c κs = search rules
 
-cast-put-fields-2 : tie.Need-overflow-cast-put-fields-2
+cast-put-fields-2 : tie.Need-overflow_cast-array_bytes
 cast-put-fields-2 c = search rules
 
-put-fields-requires : tie.Need-put-fields-requires
+put-fields-requires : tie.Need-put_fields-requires
 put-fields-requires c κs = search rules
 
-sub-pack : tie.Need-overflow-sub-pack
+sub-pack : tie.Need-slice_bounds-pack-count
 sub-pack c = search rules
 
-part-pack-start : tie.Need-slice-bounds-pack-start
+part-pack-start : tie.Need-slice_bounds-pack-start
 part-pack-start c = search rules
 
-part-pack-end : tie.Need-slice-bounds-pack-end
+part-pack-end : tie.Need-slice_bounds-pack-end
 part-pack-end c = search rules
 
 pack-requires : tie.Need-pack-requires
@@ -42,28 +42,28 @@ pack-requires c κs =
     let f = c.before.before.before in
     let s = f.before.before.before.before.before.before in
     let w = s.args.ws.now in
-    (s.requires.0, lent-long 14 f.put-fields.new.1.1.1.1.1.0 (tens w) (f.put-fields.auto.1.1.1.1.1.0 ∙ s.requires.2) ∙ tens-length w)
+    (s.requires.0, lent-long 14 f.put_fields.new.out (tens w) (f.put_fields.auto.out ∙ s.requires.2) ∙ tens-length w)
 
-same_length : tie.Need-same-length
+same_length : tie.Need-shape_of-out
 same_length c = search rules
 
 returns : tie.Need-returns
 returns c =
     let f = c.before.before.before.before.before.before in
-    let l = f.before.before.array-bytes in
+    let l = f.before.before.array_bytes in
     let x = f.before.before.before in
     let s = x.before.before.before in
     let a = s.args in
     let w = a.ws.now in
     let n = length w in
     let room = s.requires.2 in
-    let fields : List ℕ = two a.line.0 ++ a.wrapping ∷ x.coding-of.result ∷ two n ++ four l.result ++ four 1 in
-    behind-front fields (tens w) _ a.out.now _ 14 refl (omega arith) f.put-fields.ensures c.before.before.pack.ensures
-    ∙ ap₂ (λ (m k : ℕ). two a.line.0 ++ a.wrapping ∷ m ∷ two n ++ four k ++ four 1 ++ tens w) x.coding-of.ensures
+    let fields : List ℕ = two a.line.0 ++ a.wrapping ∷ x.coding_of.result ∷ two n ++ four l.result ++ four 1 in
+    behind-front fields (tens w) _ a.out.now _ 14 refl (omega arith) f.put_fields.ensures c.before.before.pack.ensures
+    ∙ ap₂ (λ (m k : ℕ). two a.line.0 ++ a.wrapping ∷ m ∷ two n ++ four k ++ four 1 ++ tens w) x.coding_of.ensures
     (l.ensures ∙ sym (tens-length w))
 
-pub put-structure-spec : {M : Type 1} → statement M
-put-structure-spec =
+pub put_structure_spec : {M : Type 1} → statement M
+put_structure_spec =
     tie.close
     (tie.spec
     coding-of-requires

@@ -41,7 +41,7 @@ same_length c = simp length-set (omega arith)
 
 returns : tie.Need-returns
 returns c =
-    let start = c.before.before.before.before in
+    let start = c.before.before.before in
     words-written start.args.out.now c.check_of.result start.requires c.check_of.ensures
 
 pub write_flag_and_cs_spec : {M : Type 1} → statement M

@@ -44,7 +44,7 @@ whole : (c : tie.Else-packets-eq-NOT_WHOLE) → Whole (s c.before) × (c.before.
 whole c =
     let a = (start c.before).args in
     let l = long c.before in
-    is_whole a.system (s c.before) a.sheet-1.now c.before.measure-packets.result (counted c.before) (omega arith) c.if-packets-eq-NOT_WHOLE.false
+    is_whole a.system (s c.before) a.sheet.now c.before.measure-packets.result (counted c.before) (omega arith) c.if-packets-eq-NOT_WHOLE.false
 
 few : (c : tie.Else-packets-eq-NOT_WHOLE) → c.before.measure-packets.result ≤ 9360
 few c =
@@ -67,7 +67,7 @@ returns c =
     let b = c.before in
     let a = (start b).args in
     let l = long b in
-    rw (same b) at (not-whole a.system (s b) a.sheet-1.now b.measure-packets.result (counted b) (omega arith) c.if-packets-eq-NOT_WHOLE.true)
+    rw (same b) at (not-whole a.system (s b) a.sheet.now b.measure-packets.result (counted b) (omega arith) c.if-packets-eq-NOT_WHOLE.true)
 
 mul-n : tie.Need-overflow_mul-n
 mul-n c = let f = few c in omega arith
@@ -84,7 +84,7 @@ returns-2 c =
     let a = (start b).args in
     let w = whole c.before in
     let l = long b in
-    rw (same b) at (no_room a.system (s b) a.sheet-1.now b.measure-packets.result _ w.0 w.1 (omega arith) (omega arith) c.if-sheet-n.true)
+    rw (same b) at (no_room a.system (s b) a.sheet.now b.measure-packets.result _ w.0 w.1 (omega arith) (omega arith) c.if-sheet-n.true)
 
 slice-aggregate-write-sections : tie.Need-slice_bounds-write_sections-end
 slice-aggregate-write-sections c = sym (long c.before.before)
@@ -94,13 +94,13 @@ slice-relend-prefix-write-sections c = search rules
 
 slice-aggregate-write-sections-2 : tie.Need-slice_bounds-write_sections-end-3
 slice-aggregate-write-sections-2 c =
-    sym (length-take-le _ (start c.before.before.before.before).args.sheet.now c.before.before.if-sheet-n.false)
+    sym (length-take-le _ (start c.before.before.before).args.sheet.now c.before.if-sheet-n.false)
 
 write-sections-requires : tie.Need-write_sections-requires
 write-sections-requires c κs =
-    let w = whole c.before.before.before in
-    let l = long c.before.before.before.before in
-    let m = length-take-le _ (start c.before.before.before.before).args.sheet.now c.before.before.if-sheet-n.false in
+    let w = whole c.before.before in
+    let l = long c.before.before.before in
+    let m = length-take-le _ (start c.before.before.before).args.sheet.now c.before.if-sheet-n.false in
     record { whole = w.0; count = w.1; few = omega arith; room = omega arith }
 
 same_length : tie.Need-shape_of-sheet
@@ -116,7 +116,7 @@ returns-3 c =
     let l = long b in
     let n = 4 + 2 * b.measure-packets.result + bytes b in
     rw (same b) at
-    (all_room a.system (s b) a.sheet-1.now b.measure-packets.result n w.0 w.1 (omega arith) (omega arith) (omega arith)
+    (all_room a.system (s b) a.sheet.now b.measure-packets.result n w.0 w.1 (omega arith) (omega arith) (omega arith)
     d.new.out d.ensures)
 
 pub write_sheet_spec : {M : Type 1} → statement M

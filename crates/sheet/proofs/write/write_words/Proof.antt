@@ -29,7 +29,7 @@ returns c =
     let n : length a.out.now ≡ length a.bytes.now + 4 → ⊥ =
     λ e.
     ⊎_elim (λ w. absurd (omega arith))
-    (λ w. eqb-false (length a.out.now - 4) (length a.bytes.now) (not-true _ w.1.taken) (omega arith)) c.then-out-lt4.branch-raw in
+    (λ w. eqb-false (length a.out.now - 4) (length a.bytes.now) (not-true _ w.if-out-bytes.true-raw) (omega arith)) c.then-out-lt4.branch-raw in
     no_words_lem a.bytes.now a.out.now n
 
 write-few-requires : tie.Need-write_few-requires
