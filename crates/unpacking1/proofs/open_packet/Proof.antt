@@ -146,7 +146,8 @@ carriers-wrong-requires : tie.Need-carriers_wrong-requires
 carriers-wrong-requires c κs =
     let o : tie.After-open_carriers-reached = c.before in
     let e = found o in
-    (rest-within (packs e) (packs-end e) e.if-stop-eq0.false (low e) o.open_carriers-reached.ensures (after-long o), after-long o ∙ (start e).requires.1)
+    let l = after-long o in
+    (rest-within (packs e) (packs-end e) e.if-stop-eq0.false (low e) o.open_carriers-reached.ensures l, l ∙ (start e).requires.1)
 
 returns-2 : tie.Need-returns-then-reached-stop
 returns-2 c =

@@ -111,7 +111,8 @@ refusal-requires c κs = search rules
 returns : tie.Need-returns-then-next-eq1 invariant-loop decreases-loop
 returns c = λ y e.
     let o : Opened = c.before.before in
-    refused-opens (refused-wrong (turn o).loop-last.invariant (goes o) o.open_packet-next.ensures c.before.if-next-eq1.true y) (omega arith) (omega arith)
+    let v = (turn o).loop-last.invariant in
+    refused-opens (refused-wrong v (goes o) o.open_packet-next.ensures c.before.if-next-eq1.true y) (omega arith) (omega arith)
     c.refusal.ensures
 
 refusal-requires-2 : tie.Need-refusal-requires-then-next-eq0 invariant-loop decreases-loop

@@ -12,7 +12,8 @@ use Rattle.packing2.proofs.unlong.open_long.Statement.{statement}
 use Rattle.packing2.proofs.unlong.open_long.Tie as tie
 
 abbrev invariant-loop : tie.invariant-loop-at
-invariant-loop system us₀ rows total whole at₀ len₀ k₀ us at len k = Opening (opened_on (rows_sizes (rows - whole)) total us₀ at₀ len₀) total us at len k
+invariant-loop system us₀ rows total whole at₀ len₀ k₀ us at len k =
+    Opening (opened_on (rows_sizes (rows - whole)) total us₀ at₀ len₀) total us at len k
 
 abbrev decreases-loop : tie.decreases-loop-at
 decreases-loop system us₀ rows total whole at₀ len₀ k₀ us at len k = total - at
