@@ -83,7 +83,7 @@ extern "C" {
 #define VANC_VERSION_NUMBER 700
 
 /* The toolchain that all was proved with. */
-#define VANC_TOOLCHAIN "rattle-kit-5b-plain logic 097e4c862dff5811"
+#define VANC_TOOLCHAIN "rattle-kit-13f logic dac8208d650f15bf"
 
 /* The VAUX blocks of a frame, in bytes. */
 #define VANC_AREA_1080_60I 9600

@@ -23,7 +23,7 @@ made=$work/made
 samples=$top/samples
 mkdir "$made" "$work/here"
 need_command
-quietly rt check lister
+need_lister
 cc_for -std=c99 -Wall -Wextra -pedantic -Werror -O1 -shared -fPIC tests/failing.c -o "$work/failing.so"
 python3 tests/command_files.py "$made"
 # The x86-64 executable: on another processor $command may be a script that runs it.
@@ -69,7 +69,7 @@ started() {
 
 # The command, and the lister.
 vanc() { started "$program" "$@"; }
-lister() { started "$top/target/bin/lister"; }
+lister() { started "$top/$lister"; }
 
 # The command, with ten seconds to end: it could wait for a FIFO.
 timely() { timeout 10 "${starter[@]}" "$program" "$@"; }
@@ -567,12 +567,17 @@ start=vanc
 # ---- names
 
 fresh_jobs
-odd=$' a  b %s%n\'\\*ä\xff'
+odd=$' a  b %s%n\'\\*ä'
 wrong "nothing.sheet: $absent" list nothing.sheet
 wrong "folder: Is a directory" list folder
 wrong "SHEET: an empty name" list ""
 wrong "-: $absent" list -
 wrong "$odd: $absent" list "$odd"
+# A name is UTF-8 text, here and below; other words may have any bytes.
+raw=$'a\xffb' no_text="Invalid or incomplete multibyte or wide character"
+wrong "$raw: $no_text" list "$raw"
+wrong "PACKING: '$raw' is no number" lay "$raw" silent folder
+wrong "'$raw' is no command; vanc --help lists them" "$raw"
 wrong "--help: $absent" lay 1 --help frame.area
 wrong "nothing.area: $absent" lay 1 cue.sheet nothing.area
 wrong "nowhere/frame.area: $absent" lay 1 cue.sheet nowhere/frame.area
@@ -585,6 +590,8 @@ for writer in "${writers[@]}"; do
   stops "${called[0]}: an empty name" $writer frame.area ""
   stops "${called[1]}: an empty name" $writer ""
   stops "${called[0]}: an empty name"$'\n'"${called[1]}: an empty name" $writer "" ""
+  stops "$raw: $no_text" $writer frame.area "$raw"
+  stops "$raw: $no_text" $writer "$raw"
   [ $writer != lay ] || continue
   for name in new.file folder/new.file "folder/$odd" -new --help; do
     works $writer "$name"
@@ -1814,12 +1821,12 @@ withstands() {
   fi
   if $1; then
     each open "${inputs[@]/%/: $many}"
-    each mkstemp "$not: $many"
+    each beside "$not: $many"
     each fchown done
     each fchmod "$not: Operation not permitted"
   else
     each open "${inputs[@]/%/: $many}" "$not: $many"
-    each mkstemp
+    each beside
     each fchown
     each fchmod
   fi
@@ -1926,7 +1933,7 @@ for writer in "${writers[@]}"; do
     [ $writer$name != laynew.file ] || continue
     fresh_jobs
     job $writer $name
-    for fault in "kill "{"stat 1","open 1","open 2","read 1","read 2","mkstemp 1","write 1","fsync 1","fchown 1","fchmod 1","rename 1"} \
+    for fault in "kill "{"stat 1","open 1","open 2","read 1","read 2","beside 1","write 1","fsync 1","fchown 1","fchmod 1","rename 1"} \
       "short,kill write "{2,20} "kill print 1"; do
       runs "${job[@]}"
       ask killed $name "$right" 644

@@ -93,7 +93,7 @@ def rattle_words(text, limit):
 
 def rattle_structs(text):
     found = {}
-    for name, body in re.findall(r"#\[repr\(C\)\]\s*pub struct (\w+) \{(.*?)\}", text, flags=re.S):
+    for name, body in re.findall(r"#\[repr\(C\)\]\s*(?:#\[derive\([^)]*\)\]\s*)*pub struct (\w+) \{(.*?)\}", text, flags=re.S):
         found[c_name(name)] = re.findall(r"pub (\w+): (\w+)", body)
     return found
 
@@ -113,7 +113,7 @@ def rattle_arguments(text):
 
 def rattle_functions(text):
     found = {}
-    pattern = r"#\[no_mangle\]\s*pub extern \"C\" fn (\w+)\(([^)]*)\) -> (\w+)"
+    pattern = r"#\[unsafe\(no_mangle\)\]\s*pub extern \"C\" fn (\w+)\(([^)]*)\) -> (\w+)"
     for name, arguments, result in re.findall(pattern, text):
         found[name] = (c_name(result), rattle_arguments(arguments))
     return found
