@@ -27,7 +27,6 @@
  *   18  a packet that the element serves has no line                             the packet
  *   19  the element is not of its form, or a line in it is 0 or past the last    the element byte: the first at fault
  *   20  a line of the frame on which no packet may stand                         for a sheet the location; on reading as for 14
- *   29  vanc_lay_eight: a packet outside the eight-bit profile                   the packet
  *
  * Packets stand on no line (0) or on a line of the vertical interval that is not kept free for switching (SMPTE RP 291-2, table 3a): in 1080 on
  * lines 1 to 20, 561 to 583, 1124 and 1125, without 7, 8, 569 and 570; in 720 on lines 1 to 25 and 746 to 750, without 7 and 8.
@@ -48,9 +47,6 @@
  * of packets is; and of areas only for one of 1080/50i in packing 2 in which 1,275 packets, with at most two user words together, are
  * followed by one to three bytes that are not all FFh. It is never given for packing 1, nor for an area of 1080/60i or 720/60p.
  *
- * The eight-bit profile (SMPTE RP 291-2, 6.5.1) is for equipment that drops the two low bits of each word: DID is 04h, 08h or 0Ch, and SDID is a
- * multiple of four and not 00h. vanc_lay_eight alone asks for it; DC and user words are not looked at.
- *
  * Pointers: each points to as many numbers or bytes as its length says, also where that is 0, so none is null; what a call writes
  * does not overlap what it reads. A call keeps no pointer, allocates nothing and has no state: calls may run side by side. It takes
  * less than 64 KB of stack.
@@ -69,9 +65,7 @@ extern "C" {
 /*
  * This version, and as one number for #if: 10000 x major + 100 x minor + patch.
  *
- * Since 0.7.0 there is vanc_lay_eight, with number 29; nothing else has changed.
- *
- * Since 0.6.0 there are vanc_mxf_write10 and vanc_mxf_read10, for elements of ten-bit samples; nothing else changed with it.
+ * Since 0.6.0 there are vanc_mxf_write10 and vanc_mxf_read10, for elements of ten-bit samples; nothing else has changed.
  *
  * Since 0.5.0 a packet on a picture line is refused with 20, by every call that takes a line: a sheet, an area or an element that older versions
  * took is refused where it has one.
@@ -79,11 +73,11 @@ extern "C" {
  * Since 0.4.0 `word` stands behind `place` in vanc_laid and vanc_element_written, which have grown from 32 to 40 bytes: what was compiled with
  * an older header has to be compiled with this one before it is linked with this library.
  */
-#define VANC_VERSION "0.7.0"
-#define VANC_VERSION_NUMBER 700
+#define VANC_VERSION "0.6.0"
+#define VANC_VERSION_NUMBER 600
 
 /* The toolchain that all was proved with. */
-#define VANC_TOOLCHAIN "rattle-kit-5b-plain logic 097e4c862dff5811"
+#define VANC_TOOLCHAIN "rattle-kit-13f logic dac8208d650f15bf"
 
 /* The VAUX blocks of a frame, in bytes. */
 #define VANC_AREA_1080_60I 9600
@@ -125,8 +119,7 @@ enum {
     VANC_REFUSED_BUFFER = 17,
     VANC_REFUSED_NO_LINE = 18,
     VANC_REFUSED_ELEMENT = 19,
-    VANC_REFUSED_PICTURE_LINE = 20,
-    VANC_REFUSED_PROFILE = 29
+    VANC_REFUSED_PICTURE_LINE = 20
 };
 
 /* What a number says, in words: "done" for 0, "no number of a refusal" for one that no call gives. The command `vanc` says the same words; for 20
@@ -176,8 +169,6 @@ static inline const char *vanc_refusal_text(uint64_t number)
         return "the element is not of the form of SMPTE ST 436-1 from here on";
     case VANC_REFUSED_PICTURE_LINE:
         return "its line is a picture line, or kept free for switching (7, 8, 569, 570)";
-    case VANC_REFUSED_PROFILE:
-        return "it is outside the eight-bit profile: DID 04h, 08h or 0Ch, SDID a multiple of four and not 00h";
     default:
         return "no number of a refusal";
     }
@@ -251,14 +242,6 @@ vanc_judged vanc_test_packet(const uint16_t *words, size_t words_len);
  * The sheet is only read.
  */
 vanc_laid vanc_lay(const uint16_t *sheet, size_t sheet_len, uint64_t packing, uint8_t *area, size_t area_len);
-
-/*
- * Lays a sheet's packets as vanc_lay does, but only where each is within the eight-bit profile: the first packet outside it is 29, behind 11 and
- * before 12. Every other answer is that of vanc_lay for the same sheet, packing and area, and so is every byte of the area.
- *
- * Refusal (1 to 6, 20, 7 to 11, 29, 12): the area is unchanged. The sheet is only read.
- */
-vanc_laid vanc_lay_eight(const uint16_t *sheet, size_t sheet_len, uint64_t packing, uint8_t *area, size_t area_len);
 
 /*
  * Reads an area's packets into a sheet, in either packing.

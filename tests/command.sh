@@ -4,7 +4,7 @@
 #
 # In order: help; there and back; arguments; names; outputs that are no files; the same file twice; links; modes and owners; files without permission;
 # sheets, areas and elements at their limits; a lighting desk's cues; refusals and their words; every line; the word at fault of a packet; packets as
-# found, in ten bits; the eight-bit profile; elements of other programs; streams; calls that fail; runs that are killed, and many at once; scripts.
+# found, in ten bits; elements of other programs; streams; calls that fail; runs that are killed, and many at once; scripts.
 set -euo pipefail
 export LC_ALL=C
 umask 022
@@ -23,7 +23,7 @@ made=$work/made
 samples=$top/samples
 mkdir "$made" "$work/here"
 need_command
-quietly rt check lister
+need_lister
 cc_for -std=c99 -Wall -Wextra -pedantic -Werror -O1 -shared -fPIC tests/failing.c -o "$work/failing.so"
 python3 tests/command_files.py "$made"
 # The x86-64 executable: on another processor $command may be a script that runs it.
@@ -69,7 +69,7 @@ started() {
 
 # The command, and the lister.
 vanc() { started "$program" "$@"; }
-lister() { started "$top/target/bin/lister"; }
+lister() { started "$top/$lister"; }
 
 # The command, with ten seconds to end: it could wait for a FIFO.
 timely() { timeout 10 "${starter[@]}" "$program" "$@"; }
@@ -156,8 +156,7 @@ gives() {
   sees became "$1" "$2"
 }
 
-# The commands that write, each with one job to do: the last two with --ten, where packets are damaged. lay-eight has a job too, but is not tried
-# with every kind of file: in that it is laying.
+# The commands that write, each with one job to do: the last two with --ten, where packets are damaged.
 commands=(lay read mxf-write mxf-read)
 writers=("${commands[@]}" mxf-write-ten mxf-read-ten)
 
@@ -170,10 +169,6 @@ job() {
   read) input=${3-laid_1.area} right=$samples/cue.sheet line="read packing 1 packets 3 numbers 40" called=(AREA SHEET) job=(read 1 "$input" "$2") ;;
   mxf-write) input=${3-film.sheet} right=$made/film.anc line="written packets 2 bytes 59" called=(SHEET ELEMENT) job=(mxf-write 0 "$input" "$2") ;;
   mxf-read) input=${3-film.anc} right=$made/film_0.sheet line="read packets 2 numbers 25" called=(ELEMENT SHEET) job=(mxf-read 3 0 "$input" "$2") ;;
-  lay-eight)
-    job lay "$2" "${3-eight.sheet}"
-    right=$made/eight.area job+=(--eight)
-    ;;
   mxf-write-ten)
     job mxf-write "$2" "${3-found.sheet}"
     right=$made/found.anc line="written packets 2 bytes 66" job+=(--ten)
@@ -243,7 +238,6 @@ refusals=(
   'it has no line, which an element asks for'
   'the element is not of the form of SMPTE ST 436-1 from here on'
   'its line is a picture line, or kept free for switching (7, 8, 569, 570)'
-  [29]='it is outside the eight-bit profile: DID 04h, 08h or 0Ch, SDID a multiple of four and not 00h'
 )
 over="a word over 3FFh has more than ten bits"
 even="a sheet file has an even number of bytes, 65536 at most"
@@ -259,7 +253,7 @@ version="vanc $(sed -n 's/^#define VANC_VERSION "\(.*\)"$/\1/p' "$top/include/va
 listing=$'system 1 packets 3 bytes 30 packs 10\n0 9 0 45 01 2\n1 561 3 61 01 6\n2 0 2 60 60 1'
 declare -A usage=(
   [list]="vanc list [SHEET]"
-  [lay]="vanc lay PACKING SHEET AREA [--eight]"
+  [lay]="vanc lay PACKING SHEET AREA"
   [read]="vanc read SYSTEM AREA SHEET"
   [mxf-write]="vanc mxf-write FI SHEET ELEMENT [--ten]"
   [mxf-read]="vanc mxf-read SYSTEM FI ELEMENT SHEET [--ten]"
@@ -296,10 +290,8 @@ for name in list "${commands[@]}"; do
   expect 0 "$printed" "" $name --help
   expect 0 "$printed" "" $name --help <folder
   [[ $name != mxf-* || $printed == *$'\n'"--ten: "* ]] || fail "nothing of --ten in '$printed'"
-  [[ $name != lay || $printed == *$'\n'"--eight: "* ]] || fail "nothing of --eight in '$printed'"
 done
 [[ $overview == *$'\n'"With --ten "*mxf-write*mxf-read* ]] || fail "nothing of --ten in '$overview'"
-[[ $overview == *--eight* ]] || fail "nothing of --eight in '$overview'"
 
 # The manual page has the same usage lines.
 synopsis=$(sed -n '/^\.Sh SYNOPSIS/,/^\.Sh DESCRIPTION/p' "$top/man/vanc.1" | sed -E '
@@ -309,8 +301,8 @@ for name in list "${commands[@]}"; do
   [[ $synopsis == *"  ${usage[$name]}  "* ]] || fail "no '${usage[$name]}' in '$synopsis'"
 done
 expect 0 "$version" "" --version
-for name in "" x LAY la lay2 " lay" "lay " layer lister reader mxf_write mxf-Read -h -help --hel --helpx --Version --ten --eight -- - / "'" '%s%n%d' \
-  "ä b" "$(printf '%065d' 1)" "$(printf '%04096d' 1)" "$(printf '%04097d' 1)" "$(printf '%05000d' 1)"; do
+for name in "" x LAY la lay2 " lay" "lay " layer lister reader mxf_write mxf-Read -h -help --hel --helpx --Version --ten -- - / "'" '%s%n%d' "ä b" \
+  "$(printf '%065d' 1)" "$(printf '%04096d' 1)" "$(printf '%04097d' 1)" "$(printf '%05000d' 1)"; do
   quote "$name"
   wrong "$quoted $unknown" "$name"
   wrong "$quoted $unknown" "$name" 1 cue.sheet frame.area
@@ -332,8 +324,7 @@ wrong "usage: vanc --version" --version --help
 
 # The words of the refusals: as above, and as the header has them.
 table=
-for number in "${!refusals[@]}"; do
-  [ $number != 0 ] || continue
+for number in {1..20}; do
   printf -v row '%2d  %s\n' "$number" "${refusals[number]}"
   table+=$row
 done
@@ -346,9 +337,8 @@ int main(void)
 {
     uint64_t number;
 
-    for (number = 1; number < 30; number++)
-        if (number < 21 || number > 28)
-            printf("%2d  %s\n", (int)number, vanc_refusal_text(number));
+    for (number = 1; number < 21; number++)
+        printf("%2d  %s\n", (int)number, vanc_refusal_text(number));
     printf("%s, %s, %s\n", vanc_refusal_text(0), vanc_refusal_text(21), vanc_refusal_text(UINT64_MAX));
     return 0;
 }
@@ -492,47 +482,41 @@ wrong "usage: ${usage[list]}" list cue.sheet ""
 wrong "usage: ${usage[list]}" list --help cue.sheet
 wrong "PACKING: '--help' is no number" lay --help cue.sheet frame.area
 
-# --ten and --eight stand behind the other arguments, once, and only where they are taken. They do not make up for one that is missing: no file gets
-# their name.
-declare -A options=([mxf-write]=--ten [mxf-read]=--ten [lay]=--eight)
-for name in "${!options[@]}"; do
+# --ten stands behind the other arguments, once, and only where it is taken. Fewer of them are not made up by it: no file gets its name.
+for name in mxf-write mxf-read; do
   job $name new.file
-  how="usage: ${usage[$name]}" option=${options[$name]}
-  bare=${option#--}
+  how="usage: ${usage[$name]}"
   words=("${job[@]:1}")
   count=${#words[@]}
   for ((at = 0; at < count; at++)); do
-    wrong "$how" $name "${words[@]:0:at}" $option
-    wrong "$how" $name "${words[@]:0:at}" $option "${words[@]:at}"
-    wrong "$how" $name "${words[@]:0:at}" $option "${words[@]:at}" $option
+    wrong "$how" $name "${words[@]:0:at}" --ten
+    wrong "$how" $name "${words[@]:0:at}" --ten "${words[@]:at}"
+    wrong "$how" $name "${words[@]:0:at}" --ten "${words[@]:at}" --ten
   done
-  wrong "$how" $name "${words[@]}" $option $option
-  wrong "$how" $name "${words[@]:0:count - 1}" $option $option
-  for more in more "" --help -- --ten --eight; do
-    wrong "$how" $name "${words[@]}" $option "$more"
-    wrong "$how" $name "${words[@]}" "$more" $option
+  wrong "$how" $name "${words[@]}" --ten --ten
+  wrong "$how" $name "${words[@]:0:count - 1}" --ten --ten
+  for more in more "" --help -- --ten; do
+    wrong "$how" $name "${words[@]}" --ten "$more"
+    wrong "$how" $name "${words[@]}" "$more" --ten
   done
-  for more in "" $bare -$bare ${option%?} ${option}s --${bare^^} --${bare^} $option= $option=1 " $option" "$option " $option/ ./$option --10 --8 \
-    $option-bit --ten --eight --help -- - "$(printf '%04096d' 1)" "$option$(printf '%05000d' 1)"; do
-    [ "$more" = $option ] || wrong "$how" $name "${words[@]}" "$more"
+  for more in "" ten -ten --te --tens --TEN --Ten --ten= --ten=1 " --ten" "--ten " --ten/ ./--ten --10 --ten-bit --help -- - "$(printf '%04096d' 1)" \
+    "--ten$(printf '%05000d' 1)"; do
+    wrong "$how" $name "${words[@]}" "$more"
   done
-  wrong "$how" $name $option --help
-  wrong "$how" $name --help $option
-  wrong "usage: vanc help [NAME]" help $name $option
+  wrong "$how" $name --ten --help
+  wrong "$how" $name --help --ten
+  wrong "usage: vanc help [NAME]" help $name --ten
 done
 wrong "FI: '--ten' is neither 0 nor 1" mxf-write --ten film.sheet new.file
 wrong "SYSTEM: '--ten' $neither" mxf-read --ten 0 film.anc new.file
 wrong "FI: '--ten' is neither 0 nor 1" mxf-read 3 --ten film.anc new.file
 wrong "--ten: $absent" mxf-write 0 --ten new.file
 wrong "--ten: $absent" mxf-read 3 0 --ten new.file
-wrong "PACKING: '--eight' is no number" lay --eight cue.sheet frame.area
-wrong "--eight: $absent" lay 1 --eight frame.area
-for option in --ten --eight; do
-  wrong "usage: ${usage[list]}" list cue.sheet $option
-  wrong "usage: ${usage[read]}" read 1 laid_1.area new.file $option
-  wrong "usage: vanc --version" --version $option
-  wrong "usage: vanc --help" --help $option
-done
+wrong "usage: ${usage[list]}" list cue.sheet --ten
+wrong "usage: ${usage[lay]}" lay 1 cue.sheet frame.area --ten
+wrong "usage: ${usage[read]}" read 1 laid_1.area new.file --ten
+wrong "usage: vanc --version" --version --ten
+wrong "usage: vanc --help" --help --ten
 for writer in mxf-write-ten mxf-read-ten; do
   works $writer ./--ten --ten
   job $writer x
@@ -551,7 +535,6 @@ wrong "FI: '2' is neither 0 nor 1"$'\n'"SHEET: an empty name"$'\n'"ELEMENT: an e
 wrong "SYSTEM: 'x' $neither"$'\n'"FI: 'y' is neither 0 nor 1"$'\n'"ELEMENT: an empty name"$'\n'"SHEET: $large" mxf-read x y "" "$wide"
 wrong "FI: '2' is neither 0 nor 1"$'\n'"SHEET: $large"$'\n'"ELEMENT: an empty name" mxf-write 2 "$wide" "" --ten
 wrong "SYSTEM: 'x' $neither"$'\n'"FI: 'y' is neither 0 nor 1"$'\n'"ELEMENT: an empty name"$'\n'"SHEET: $large" mxf-read x y "" "$wide" --ten
-wrong "PACKING: '--eight' is no number"$'\n'"SHEET: an empty name"$'\n'"AREA: $large" lay --eight "" "$wide" --eight
 wrong "PACKING: 'x' is no number"$'\n'"AREA: an empty name" lay x nothing.sheet ""
 wrong "AREA: an empty name" lay 3 cue.sheet ""
 wrong "SHEET: an empty name" read 4 nothing.area ""
@@ -559,7 +542,6 @@ start=timely
 wrong "PACKING: 'x' is no number" lay x silent frame.area
 wrong "SYSTEM: 'x' $neither" read x silent folder
 wrong "SYSTEM: 'x' $neither"$'\n'"FI: '2' is neither 0 nor 1" mxf-read x 2 silent folder
-wrong "PACKING: 'x' is no number" lay x silent folder --eight
 wrong "FI: '2' is neither 0 nor 1" mxf-write 2 silent folder --ten
 wrong "SYSTEM: 'x' $neither"$'\n'"FI: '2' is neither 0 nor 1" mxf-read x 2 silent folder --ten
 start=vanc
@@ -567,12 +549,17 @@ start=vanc
 # ---- names
 
 fresh_jobs
-odd=$' a  b %s%n\'\\*ä\xff'
+odd=$' a  b %s%n\'\\*ä'
 wrong "nothing.sheet: $absent" list nothing.sheet
 wrong "folder: Is a directory" list folder
 wrong "SHEET: an empty name" list ""
 wrong "-: $absent" list -
 wrong "$odd: $absent" list "$odd"
+# A name is UTF-8 text, here and below; other words may have any bytes.
+raw=$'a\xffb' no_text="Invalid or incomplete multibyte or wide character"
+wrong "$raw: $no_text" list "$raw"
+wrong "PACKING: '$raw' is no number" lay "$raw" silent folder
+wrong "'$raw' is no command; vanc --help lists them" "$raw"
 wrong "--help: $absent" lay 1 --help frame.area
 wrong "nothing.area: $absent" lay 1 cue.sheet nothing.area
 wrong "nowhere/frame.area: $absent" lay 1 cue.sheet nowhere/frame.area
@@ -585,6 +572,8 @@ for writer in "${writers[@]}"; do
   stops "${called[0]}: an empty name" $writer frame.area ""
   stops "${called[1]}: an empty name" $writer ""
   stops "${called[0]}: an empty name"$'\n'"${called[1]}: an empty name" $writer "" ""
+  stops "$raw: $no_text" $writer frame.area "$raw"
+  stops "$raw: $no_text" $writer "$raw"
   [ $writer != lay ] || continue
   for name in new.file folder/new.file "folder/$odd" -new --help; do
     works $writer "$name"
@@ -1476,85 +1465,6 @@ for words in '0 23 \007 7 is kept free for switching' '1 45 \032 26 is a picture
   refused 19 $((44 - 22 * packet)) "bad.anc: byte $((44 - 22 * packet))" mxf-read 3 0 bad.anc new.file --ten
 done
 
-# ---- the eight-bit profile
-
-# Packets within it are laid as without the option: each pair of DID and SDID, and a frame full of them. With a user byte more there is no room; a
-# packet outside is said before that, also where it is the last.
-for y in 1 2 3; do
-  fresh "$made/noise_$y.area" "$made/eight_every_$y.sheet" "$made/"{eight_fill,eight_spill,29_spill}_{1,2}_$y.sheet
-  for packing in 1 2; do
-    every=eight_every_${packing}_$y fill=eight_fill_${packing}_$y spill=eight_spill_${packing}_$y.sheet outside=29_spill_${packing}_$y.sheet
-    for eight in "" --eight; do
-      gives noise_$y.area "$made/$every.area" "$(cat "$made/$every.laid")" lay $packing eight_every_$y.sheet noise_$y.area $eight
-    done
-    gives noise_$y.area "$made/$fill.area" "$(cat "$made/$fill.laid")" lay $packing $fill.sheet noise_$y.area --eight
-    refused 12 0 $spill lay $packing $spill noise_$y.area --eight
-    last=$(($(od -An -tu2 --endian=big -j4 -N2 $outside) - 1))
-    refused 29 $last "$outside: packet $last (line 9), DID 04h, SDID 06h" lay $packing $outside noise_$y.area --eight
-  done
-done
-
-# Each pair beside those of the profile, with a line and without. Another packet outside stands behind: the first is said.
-fresh "$made/"29_??_??_*.sheet "$made/"noise_{1,2,3}.area
-for sheet in 29_??_??_*.sheet; do
-  IFS=_ read -r _ did sdid line y <<<"${sheet%.sheet}"
-  where="line $line" named=SDID packing=$((packing % 2 + 1))
-  [ $line != 0 ] || where="no line"
-  [[ $did == [0-7]? ]] || named=DBN
-  refused 29 1 "$sheet: packet 1 ($where), DID ${did}h, $named ${sdid}h" lay $packing $sheet noise_$y.area --eight
-done
-
-# Every other test but that of the room comes before, also where it is a later packet's: in all these sheets packet 0 is outside.
-fresh "$made/"{2_short,3_system_4,5_many_2,6_flags,20_before_11,7_few,11_more,11_fewer,word_{sdid,no_cs,cs}_line}.sheet "$made/"noise_{1,2}.area \
-  "$samples/cue.sheet"
-refused 1 0 PACKING lay 3 cue.sheet noise_1.area --eight
-for name in 2_short 3_system_4 11_more 11_fewer; do
-  refused ${name%%_*} 0 $name.sheet lay 1 $name.sheet noise_1.area --eight
-done
-refused 4 0 noise_2.area lay 1 cue.sheet noise_2.area --eight
-refused 5 0 5_many_2.sheet lay 2 5_many_2.sheet noise_2.area --eight
-refused 6 1 "6_flags.sheet: location 1 (line 561, flags 4)" lay 1 6_flags.sheet noise_1.area --eight
-instead="line 21 is a picture line" refused 20 2 "20_before_11.sheet: location 2 (line 21, flags 0)" lay 1 20_before_11.sheet noise_1.area --eight
-at_word=6 refused 7 2 "7_few.sheet: packet 2 (no line), word 6 (user word 0) is missing" lay 2 7_few.sheet noise_1.area --eight
-for words in "sdid 8 4 (SDID) is 301h" "no_cs 9 8 (CS) is missing" "cs 10 8 (CS) is 2D8h"; do
-  read -r name number at_word said <<<"$words"
-  sheet=word_${name}_line.sheet
-  refused $number 1 "$sheet: packet 1 (line 9), word $at_word $said" lay 2 $sheet noise_1.area --eight
-done
-at_word=0
-for packing in 1 2; do
-  refused 29 0 "cue.sheet: packet 0 (line 9), DID 45h, SDID 01h" lay $packing cue.sheet noise_1.area --eight
-done
-wrong "nothing.area: $absent" lay 1 cue.sheet nothing.area --eight
-
-# Files are as for laying without it. A file that has the option's name can be a sheet; as an area its folder is named too.
-fresh "$made/eight.sheet" "$samples/cue.sheet" "$samples/frame.area"
-ln -s frame.area link
-keep
-works lay-eight frame.area
-works lay-eight link frame.area
-works lay-eight frame.area "" /dev/stdin < <(cat eight.sheet)
-refused 29 0 "/dev/stdin: packet 0 (line 9), DID 45h, SDID 01h" lay 1 /dev/stdin frame.area --eight <cue.sheet
-stops "eight.sheet: the same file as eight.sheet" lay-eight eight.sheet
-stops "folder: a folder; $regular" lay-eight folder
-stops "nothing.sheet: $absent" lay-eight frame.area nothing.sheet
-job lay-eight frame.area
-fault="rename 1,unlink 1" expect 2 "" "frame.area: not written: Invalid cross-device link" "${job[@]}"
-sees beside . "$right" 644
-cp frame.area ./--eight
-keep
-wrong "usage: ${usage[lay]}" lay 1 eight.sheet --eight
-works lay-eight ./--eight --eight
-cp eight.sheet ./--eight
-keep
-works lay-eight frame.area "" --eight
-gives frame.area "$right" "$line" lay 1 --eight frame.area
-
-# Sheets by chance.
-this="vanc lay --eight"
-compared=$(python3 "$top/tests/command_profile.py" 30 "${starter[@]}" "$program") || fail "a sheet is not laid, or not refused, as it should be"
-done_tests=$((done_tests + compared))
-
 # ---- elements of other programs (docs/OUTSIDE-ELEMENTS.md): the byte at which each is refused, then mended
 
 # long_form FILE: the length of the element in four bytes, not in one.
@@ -1591,7 +1501,6 @@ keep
 # What is said of 10_line.sheet, before the words of 10.
 wrong_cs="packet 0 (line 9), word 8 (CS) is 1D9h"
 has_over="over_then_11_as_found.sheet: packet 1, word 7 (user word 1) is 400h: $over"
-outside="cue.sheet: packet 0 (line 9), DID 45h, SDID 01h: ${refusals[29]}"
 
 # each_output WRITER: the outputs are in `outputs`: a file to replace, one through a link, and a new one.
 each_output() {
@@ -1641,7 +1550,6 @@ for stream in full broken limited readable; do
   wrong "$why"$'\n'"$unchanged" list <cue.sheet
   wrong "10_line.sheet: $wrong_cs: ${refusals[10]}"$'\n'"$why"$'\n'"$unchanged" list 10_line.sheet
   wrong "10_line.sheet: $wrong_cs: ${refusals[10]}"$'\n'"$why"$'\n'"$unchanged" lay 1 10_line.sheet frame.area
-  wrong "$outside"$'\n'"$why"$'\n'"$unchanged" lay 1 cue.sheet frame.area --eight
   wrong "14_1.area: packet 1: ${refusals[14]}"$'\n'"$why"$'\n'"$unchanged" read 1 14_1.area frame.area
   wrong "SYSTEM: ${refusals[3]}"$'\n'"$why"$'\n'"$unchanged" mxf-read 4 0 film.anc new.file
   wrong "$has_over"$'\n'"$why"$'\n'"$unchanged" mxf-write 0 over_then_11_as_found.sheet frame.area --ten
@@ -1664,8 +1572,7 @@ for start in closed_output closed_input_output closed_output_error closed_all; d
   why=
   [[ $start == *error || $start == *all ]] || why="standard output: Bad file descriptor"$'\n'"$unchanged"
   for words in '' x lay lay\ {x\ y\ z,3\ cue.sheet\ frame.area,1\ {silent\ frame.area,cue.sheet\ frame.area,cue.sheet\ folder,nothing\ nothing}} \
-    lay\ 1\ cue.sheet\ {--eight,frame.area\ --eight} list{,\ silent,\ cue.sheet,\ nothing,\ 10_line.sheet} \
-    read\ 1\ {silent,laid_1.area}\ {frame.area,new.file,link,nowhere/x} \
+    list{,\ silent,\ cue.sheet,\ nothing,\ 10_line.sheet} read\ 1\ {silent,laid_1.area}\ {frame.area,new.file,link,nowhere/x} \
     mxf-write\ 0\ film.sheet\ {new.file,--ten,new.file\ --ten} mxf-read\ 3\ 0\ {film.anc,silent}\ new.file{,\ --ten} \
     help{,\ lay,\ x,\ refusals,\ lay\ read} \
     --help lay\ --help --version; do
@@ -1715,7 +1622,6 @@ for start in closed_error full_error broken_error closed_input_error; do
   wrong ""
   wrong "" x
   expect 1 "refused 10 at 0 8" "" lay 1 10_line.sheet frame.area
-  expect 1 "refused 29 at 0 0" "" lay 1 cue.sheet frame.area --eight
   expect 1 "refused 14 at 1" "" read 1 14_1.area new.file
   expect 1 "refused 8 at 1 7" "" mxf-write 0 over_then_11_as_found.sheet new.file --ten
   expect 1 "refused 19 at 25" "" mxf-read 3 0 film.anc new.file --ten
@@ -1814,12 +1720,12 @@ withstands() {
   fi
   if $1; then
     each open "${inputs[@]/%/: $many}"
-    each mkstemp "$not: $many"
+    each beside "$not: $many"
     each fchown done
     each fchmod "$not: Operation not permitted"
   else
     each open "${inputs[@]/%/: $many}" "$not: $many"
-    each mkstemp
+    each beside
     each fchown
     each fchmod
   fi
@@ -1926,7 +1832,7 @@ for writer in "${writers[@]}"; do
     [ $writer$name != laynew.file ] || continue
     fresh_jobs
     job $writer $name
-    for fault in "kill "{"stat 1","open 1","open 2","read 1","read 2","mkstemp 1","write 1","fsync 1","fchown 1","fchmod 1","rename 1"} \
+    for fault in "kill "{"stat 1","open 1","open 2","read 1","read 2","beside 1","write 1","fsync 1","fchown 1","fchmod 1","rename 1"} \
       "short,kill write "{2,20} "kill print 1"; do
       runs "${job[@]}"
       ask killed $name "$right" 644

@@ -24,18 +24,12 @@ one read; found_film.anc, film.sheet. damaged_Y.sheet: many packets with any ten
 damaged_Y_F.sheet and damaged_Y_F.text, that one read and listed; noisy_Y_F.anc, with padding and with noise in all that is not used. full_ten_Y.anc:
 full_Y.sheet, which is sound. wide_Y: the sheet file with the longest element: 65,536 bytes; wide_less_Y and wide_over_Y (one number fewer, one more);
 wide_long_Y.anc (262,144 bytes, with padding) and wide_long_over_Y.anc; wide_limit_Y.anc (a packet over the limit, too many words); wide_words.anc,
-of over 65,535 words. NAME_as_found.sheet: refused as found (see `faults_as_found`).
-
-The eight-bit profile (request A14). eight.sheet: three packets of it, as long as cue.sheet's; eight.area, frame.area with them laid in packing 1.
-eight_every_Y.sheet: all pairs of the profile; eight_fill_K_Y.sheet: fills the frame with them; eight_spill_K_Y.sheet: one byte more. As they are laid
-into noise_Y: eight_every_K_Y.area and eight_fill_K_Y.area, and what is printed (.laid). 29_spill_K_Y.sheet: one byte more, and the last packet is
-outside. 29_DID_SDID_LINE_Y.sheet: packet 1 is outside, on that line or none, and so is packet 2."""
+of over 65,535 words. NAME_as_found.sheet: refused as found (see `faults_as_found`)."""
 import os
 import random
 import sys
 
-from reference import FLAG, LAST, LIMIT, LINES, PROFILE, area_size, first_outside, lay, listing, pack, packet, packs_5, read, sheet, sheet_tests
-from reference import spread, ten_bits, user_bytes
+from reference import FLAG, LAST, LIMIT, LINES, area_size, lay, listing, pack, packet, packs_5, read, sheet, sheet_tests, spread, ten_bits, user_bytes
 
 folder = sys.argv[1]
 samples = os.path.join(os.path.dirname(os.path.abspath(__file__)), "..", "samples")
@@ -57,12 +51,12 @@ def load_sheet(name):
     return [data[i] << 8 | data[i + 1] for i in range(0, len(data), 2)]
 
 
-def packets_of(system, sizes, flags, first_line=1, pair=lambda k: (k % 256, 255 - k % 256)):
+def packets_of(system, sizes, flags, first_line=1):
     """A packet for each DC: (line, flags, words), on lines that have as many digits as can be, or on none and then on every other that is allowed."""
     long = [line for line in reversed(LINES[system]) if len(str(line)) == len(str(LAST[system]))]
     lines = long if first_line else [0, *LINES[system]]
     for k, dc in enumerate(sizes):
-        yield lines[k % len(lines)], flags(k), packet(*pair(k), chance.randbytes(dc))
+        yield lines[k % len(lines)], flags(k), packet(k % 256, 255 - k % 256, chance.randbytes(dc))
 
 
 def sheet_of(system, packets):
@@ -122,16 +116,13 @@ def full(system):
             save("other_3.sheet", pack(sheet_of(3, [(line, flags + 1, words) for line, flags, words in packets])))
 
 
-def filling(system, packing):
+def fill(system, packing):
     """In packing 1 packets of two packs, but for twenty of three; in packing 2 as many as there can be, with a user byte in the first few."""
     if packing == 1:
-        return [4] * 20 + [0] * ({1: 1560, 2: 1872, 3: 1560}[system] // 2 - 30)
-    count, user = divmod({1: 7440, 2: 8928, 3: 7440}[system], 7)
-    return [1] * user + [0] * (count - user)
-
-
-def fill(system, packing):
-    sizes = filling(system, packing)
+        sizes = [4] * 20 + [0] * ({1: 1560, 2: 1872, 3: 1560}[system] // 2 - 30)
+    else:
+        count, user = divmod({1: 7440, 2: 8928, 3: 7440}[system], 7)
+        sizes = [1] * user + [0] * (count - user)
     packets = list(packets_of(system, sizes, lambda k: k % 4, first_line=0))
     s = sheet_of(system, packets)
     save(f"fill_{packing}_{system}.sheet", pack(s))
@@ -465,52 +456,6 @@ def sheets_as_found():
     save("passed_over_as_found.sheet", pack(sheet_of(3, film)))
 
 
-def laid_within(name, packing, system, packets, before):
-    """The area that packets within the eight-bit profile are laid into, and what is printed."""
-    area, (user, packs) = bytearray(before), user_bytes(packing, system, packets)
-    spread(system, user, area)
-    save(f"{name}.area", area)
-    save(f"{name}.laid", f"laid packs {packs} bytes {sum(len(words) for _, _, words in packets)}\n".encode())
-
-
-def profile(system):
-    pairs = sorted(PROFILE)
-
-    def within(sizes):
-        return list(packets_of(system, sizes, lambda k: k % 4, first_line=0, pair=lambda k: pairs[k % len(pairs)]))
-
-    every = within([k * 37 % 24 for k in range(len(pairs))])
-    assert first_outside(every) is None
-    save(f"eight_every_{system}.sheet", pack(sheet_of(system, every)))
-    for packing in (1, 2):
-        laid_within(f"eight_every_{packing}_{system}", packing, system, every, noise[system])
-        packets, name = within(filling(system, packing)), f"{packing}_{system}"
-        save(f"eight_fill_{name}.sheet", pack(sheet_of(system, packets)))
-        laid_within(f"eight_fill_{name}", packing, system, packets, noise[system])
-        # One user byte more, in a packet of the profile or not.
-        for to, pair in ((f"eight_spill_{name}", (0x0C, 0x04)), (f"29_spill_{name}", (0x04, 0x06))):
-            packets[-1] = (9, 0, packet(*pair, [0x55]))
-            assert user_bytes(packing, system, packets) is None
-            save(f"{to}.sheet", pack(sheet_of(system, packets)))
-
-
-# What the profile leaves out beside what it has: by each bit of a DID and an SDID, the values between, packets of type 1 and of type 2.
-OUTSIDE = [(did, 0x04) for did in (0x00, 0x01, 0x03, 0x05, 0x06, 0x07, 0x09, 0x0A, 0x0B, 0x0D, 0x0E, 0x0F, 0x10, 0x14, 0x24, 0x44, 0x61, 0x7F)]
-OUTSIDE += [(did, 0x08) for did in (0x80, 0x84, 0x88, 0x8C, 0xFF)]
-OUTSIDE += [(did, 0x00) for did in (0x04, 0x08, 0x0C)] + [(0x04, sdid) for sdid in (0x01, 0x02, 0x03, 0xFD, 0xFE, 0xFF)]
-OUTSIDE += [(0x08, 0x05), (0x0C, 0x06), (0x08, 0x7F), (0x0C, 0x81), (0x61, 0x02), (0x60, 0x60), (0x80, 0x00), (0x00, 0x00)]
-
-
-def outside_profile():
-    for k, (did, sdid) in enumerate(OUTSIDE):
-        system, line = 1 + k % 3, (9, 0, 20, 0)[k % 4]
-        behind = OUTSIDE[(k + 5) % len(OUTSIDE)]
-        packets = [(20, 1, packet(0x08, 0x10, [k])), (line, k % 4, packet(did, sdid, range(k % 5))), (9, 0, packet(*behind, []))]
-        s = sheet_of(system, packets)
-        assert lay(1 + k % 2, s, bytearray(noise[system]), eight=True)[:3] == (29, 1, 0), (did, sdid)
-        save(f"29_{did:02X}_{sdid:02X}_{line}_{system}.sheet", pack(s))
-
-
 noise = {system: chance.randbytes(area_size(system)) for system in LAST}
 for system in LAST:
     save(f"noise_{system}.area", noise[system])
@@ -534,9 +479,3 @@ packets = [(9, 2, as_found(96)) for _ in range(637)]
 assert sum(len(words) for _, _, words in packets) == 65611
 save("wide_words.anc", element(1, packets, coded=ten))
 sheets_as_found()
-packets = [(9, 0, packet(0x04, 0x10, [0x10, 0x80])), (561, 3, packet(0x08, 0xFC, range(6))), (0, 2, packet(0x0C, 0x20, [0xFF]))]
-save("eight.sheet", pack(sheet_of(1, packets)))
-laid_within("eight", 1, 1, packets, load("frame.area"))
-for system in LAST:
-    profile(system)
-outside_profile()

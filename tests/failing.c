@@ -2,9 +2,10 @@
  *
  * FAULT in the environment has what goes wrong, with commas between: a call and a number, as "read 2": of those calls the second fails; the same
  * with "kill " in front: the program is killed there, before the call is made; "short": every read and write moves one byte. The calls are open,
- * mkstemp, stat, fstat, readlink, read, write (to a file), nothing (a write to a file, which answers 0), print (a write to standard output), fsync,
- * fchmod, fchown, close, rename, unlink and getentropy. MET has the name of a file, to which a line with the name of the call is added each time that
- * one is met.
+ * beside (the opening of a new file that is its owner's alone), stat and fstat (statx of a path and of an open file), readlink, read, write (to a
+ * file), nothing (a write to a file, which answers 0), print (a write to standard output), fsync, fchmod, fchown, close, rename, unlink and
+ * getentropy. What is read below /proc/self is passed over: no fault meets it, and it is not counted. MET has the name of a file, to which a line with
+ * the name of the call is added each time that one is met.
  */
 #define _GNU_SOURCE
 #include <errno.h>
@@ -84,44 +85,37 @@ static size_t moved(size_t n)
     return n && is_short() ? 1 : n;
 }
 
+/* The one open file below /proc/self, in which the system says what limits a process has: no file of the tests. */
+static int of_system = -1;
+
+/* Whether it makes the file beside one that is replaced: it is not there, and will be its owner's alone. */
+static int is_beside(int flags, int mode)
+{
+    return flags & O_EXCL && mode == 0600;
+}
+
 int open(const char *path, int flags, ...)
 {
     va_list rest;
-    int mode;
+    int mode, fd;
 
     va_start(rest, flags);
     mode = flags & O_CREAT ? va_arg(rest, int) : 0;
     va_end(rest);
-    return fails("open", EMFILE) ? -1 : (int)syscall(SYS_openat, AT_FDCWD, path, flags, mode);
+    if (strncmp(path, "/proc/self/", 11) == 0 && strncmp(path, "/proc/self/fd/", 14) != 0) {
+        fd = (int)syscall(SYS_openat, AT_FDCWD, path, flags, mode);
+        of_system = fd;
+        return fd;
+    }
+    return fails(is_beside(flags, mode) ? "beside" : "open", EMFILE) ? -1 : (int)syscall(SYS_openat, AT_FDCWD, path, flags, mode);
 }
 
-/* The C library's own makes its file without open: the name by chance, and none that is there already. */
-int mkstemp(char *path)
+/* Of a path, and of an open file. */
+int statx(int folder, const char *restrict path, int flags, unsigned mask, struct statx *restrict found)
 {
-    static const char letters[] = "abcdefghijklmnopqrstuvwxyzABCDEF";
-    char *chosen = path + strlen(path) - 6;
-    unsigned char chance[6];
-    int fd, i;
-
-    if (fails("mkstemp", EMFILE))
+    if (*path ? fails("stat", EACCES) : fails("fstat", EIO))
         return -1;
-    do {
-        syscall(SYS_getrandom, chance, sizeof chance, 0);
-        for (i = 0; i < 6; i++)
-            chosen[i] = letters[chance[i] % 32];
-        fd = (int)syscall(SYS_openat, AT_FDCWD, path, O_RDWR | O_CREAT | O_EXCL, 0600);
-    } while (fd < 0 && errno == EEXIST);
-    return fd;
-}
-
-int stat(const char *restrict path, struct stat *restrict found)
-{
-    return fails("stat", EACCES) ? -1 : (int)syscall(SYS_stat, path, found);
-}
-
-int fstat(int fd, struct stat *found)
-{
-    return fails("fstat", EIO) ? -1 : (int)syscall(SYS_fstat, fd, found);
+    return (int)syscall(SYS_statx, folder, path, flags, mask, found);
 }
 
 ssize_t readlink(const char *restrict path, char *restrict bytes, size_t n)
@@ -131,6 +125,8 @@ ssize_t readlink(const char *restrict path, char *restrict bytes, size_t n)
 
 ssize_t read(int fd, void *bytes, size_t n)
 {
+    if (fd == of_system)
+        return syscall(SYS_read, fd, bytes, n);
     return fails("read", EIO) ? -1 : syscall(SYS_read, fd, bytes, moved(n));
 }
 
@@ -165,6 +161,10 @@ int close(int fd)
 {
     int closed = (int)syscall(SYS_close, fd);
 
+    if (fd == of_system) {
+        of_system = -1;
+        return closed;
+    }
     return fails("close", EIO) ? -1 : closed;
 }
 

@@ -2,8 +2,8 @@
 """include/vanc.h says what the library exports: the same functions, with the same arguments in the same order and widths, and structs of the same
 fields. Compared are the header, the functions marked `extern "C"` with the shapes that they give back, and the symbols of the archive.
 
-The names of the numbers are those of `NUMBERS`, in their order, and its words are those of the table that the command prints from. Its version as a
-number is its version in digits, its toolchain that of the file TOOLCHAIN.
+The names of the numbers are 0 and on without a gap, and its words are those of the table that the command prints from. Its version as a number is its
+version in digits, its toolchain that of the file TOOLCHAIN.
 
     header.py HEADER SYMBOLS TOOLCHAIN REFUSALS FRAME RATTLE..
 
@@ -14,9 +14,6 @@ import re
 import sys
 
 C_NUMBERS = {"uint8_t": "u8", "uint16_t": "u16", "uint32_t": "u32", "uint64_t": "u64", "size_t": "usize", "bool": "bool"}
-
-# 0 and the refusals that some call gives: the numbers between belong to requests that are not there yet.
-NUMBERS = [*range(21), 29]
 
 # The refusals that name a word of the packet.
 WITH_WORD = [7, 8, 9, 10]
@@ -93,7 +90,7 @@ def rattle_words(text, limit):
 
 def rattle_structs(text):
     found = {}
-    for name, body in re.findall(r"#\[repr\(C\)\]\s*pub struct (\w+) \{(.*?)\}", text, flags=re.S):
+    for name, body in re.findall(r"#\[repr\(C\)\]\s*(?:#\[derive\([^)]*\)\]\s*)*pub struct (\w+) \{(.*?)\}", text, flags=re.S):
         found[c_name(name)] = re.findall(r"pub (\w+): (\w+)", body)
     return found
 
@@ -113,7 +110,7 @@ def rattle_arguments(text):
 
 def rattle_functions(text):
     found = {}
-    pattern = r"#\[no_mangle\]\s*pub extern \"C\" fn (\w+)\(([^)]*)\) -> (\w+)"
+    pattern = r"#\[unsafe\(no_mangle\)\]\s*pub extern \"C\" fn (\w+)\(([^)]*)\) -> (\w+)"
     for name, arguments, result in re.findall(pattern, text):
         found[name] = (c_name(result), rattle_arguments(arguments))
     return found
@@ -129,7 +126,7 @@ def number_differences(header, words):
     text = without_comments(header)
     numbers = [number for _, number in header_names(text)]
     said = []
-    if numbers != NUMBERS:
+    if not numbers or numbers != list(range(len(numbers))):
         said.append(f"names: their numbers are {numbers}")
     rows = [[int(number) for number in re.findall(r"^ \* {3,4}(\d+)  \S", part, flags=re.M)] for part in header.split("\n *\n")]
     tables = [numbers_there for numbers_there in rows if numbers_there]
@@ -192,12 +189,8 @@ WRONG = [
     ("VANC_REFUSED_START = 7,\n    VANC_REFUSED_WORD = 8", "VANC_REFUSED_WORD = 7,\n    VANC_REFUSED_START = 8"),
     (" *   19  the element", " *   20  the element"),
     (" *   20  a line of the frame", " *   21  a line of the frame"),
-    ("    VANC_REFUSED_PICTURE_LINE = 20,\n", "    VANC_REFUSED_PICTURE_LINE = 21,\n"),
+    ("    VANC_REFUSED_PICTURE_LINE = 20\n", "    VANC_REFUSED_PICTURE_LINE = 21\n"),
     ("kept free for switching (7, 8, 569, 570)", "kept free for switching (7, 8)"),
-    (" *   29  vanc_lay_eight", " *   21  vanc_lay_eight"),
-    ("    VANC_REFUSED_PROFILE = 29\n", "    VANC_REFUSED_PROFILE = 21\n"),
-    ("SDID a multiple of four and not 00h\"", "SDID a multiple of four\""),
-    ("vanc_lay_eight(const uint16_t *sheet", "vanc_lay_eight(uint16_t *sheet"),
     ("#define VANC_VERSION_NUMBER ", "#define VANC_VERSION_NUMBER 1"),
     ('#define VANC_VERSION "', '#define VANC_VERSION "1'),
     ('#define VANC_TOOLCHAIN "', '#define VANC_TOOLCHAIN "another '),

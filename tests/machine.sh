@@ -6,14 +6,13 @@
 #     run PROGRAM ..           runs an x86-64 program on any processor, after need_cc
 #     need_archive, $archive   the library's archive
 #     need_command, $command   the command vanc, which runs on any processor
+#     need_lister, $lister     the lister, an x86-64 executable
 #     quietly COMMAND ..       shows what a command says only where it fails
 #     proving RT-COMMAND ..    shows of what rt says which crate is proved, as it comes; all of it where it fails
 
-# rt waits for a whole batch before it starts the next: with one more than there are processors, fewer are idle while the last of a batch ends.
-export RT_JOBS=${RT_JOBS:-$(($(nproc) + 1))}
-
 archive=target/staticlib/libvanc.a
 command=target/bin/vanc
+lister=target/bin/lister
 
 no_rt="the Rattle toolchain's command 'rt' is not on this machine; it is the one thing that has to be there"
 
@@ -50,9 +49,17 @@ quietly() {
 proving() {
   local said=target/said status=0
   mkdir -p target
-  "$@" 2>&1 | tee "$said" | sed -nu '/^rt: [a-z0-9_]* proved ([0-9]* s)$/p' || status=${PIPESTATUS[0]}
+  "$@" 2>&1 | tee "$said" |
+    awk '/^crate [a-z0-9_]+: / { crate = $2 } /^logic=proved / { sub(":", "", crate); print "rt: " crate " proved"; fflush() }' || status=${PIPESTATUS[0]}
   [ "$status" = 0 ] || cat "$said" >&2
   return "$status"
+}
+
+# in_crate CRATE COMMAND ..: in its folder.
+in_crate() {
+  local crate=$1
+  shift
+  (cd "crates/$crate" && "$@")
 }
 
 # compare_toolchain NAME: the script NAME says it where the toolchain is another than the recorded one.
@@ -64,7 +71,8 @@ compare_toolchain() {
     echo "$1: this machine has the toolchain '$here', the project was proved with '$recorded'; going on with what is here" >&2
 }
 
-# behind CRATE ..: these crates of crates.txt and all that they depend on, each after what it depends on.
+# behind CRATE ..: these crates of crates.txt and all that they depend on, each after what it depends on. A line is 'NAME: DEP ..' or
+# 'NAME staticlib: DEP ..'.
 behind() {
   awk -v wanted="$*" '
     function visit(crate, n, i, names) {
@@ -75,9 +83,19 @@ behind() {
       print crate
     }
     { sub(/#.*/, "") }
-    /:/ { at = index($0, ":"); needs[substr($0, 1, at - 1)] = substr($0, at + 1) }
+    /:/ { at = index($0, ":"); split(substr($0, 1, at - 1), head, " "); needs[head[1]] = substr($0, at + 1) }
     END { n = split(wanted, names, " "); for (i = 1; i <= n; i++) visit(names[i]) }
   ' crates.txt
+}
+
+# lines_of CRATE ..: their lines of crates.txt.
+lines_of() {
+  printf '^%s[ :]\n' "$@" | grep -f - crates.txt
+}
+
+# files_of CRATE ..: all files that these crates are proved and built of: neither what rt keeps in out/, nor the edits that must be refused.
+files_of() {
+  find "${@/#/crates/}" \( -name out -o -name must-fail \) -prune -o -type f -print0
 }
 
 # made_of CRATE: one line for the toolchain and all files that CRATE is proved and built of.
@@ -86,8 +104,8 @@ made_of() {
   mapfile -t crates < <(behind "$1")
   {
     rt version
-    printf '^%s:\n' "${crates[@]}" | grep -f - crates.txt
-    find "${crates[@]/#/crates/}" -name must-fail -prune -o -type f -exec sha256sum {} + | LC_ALL=C sort
+    lines_of "${crates[@]}"
+    files_of "${crates[@]}" | xargs -0 sha256sum | LC_ALL=C sort
   } | sha256sum
 }
 
@@ -96,7 +114,7 @@ is_made() {
   [ -e "$1" ] && [ "$(cat "$1.of" 2>/dev/null)" = "$(made_of "$2")" ]
 }
 
-# unless_made FILE CRATE MAKER ..: runs MAKER where FILE is not made of CRATE as it is, since `rt staticlib` proves a crate each time it is called.
+# unless_made FILE CRATE MAKER ..: runs MAKER where FILE is not made of CRATE as it is, since rt checks a crate each time that it builds it.
 unless_made() {
   local file=$1 crate=$2 of
   shift 2
@@ -108,25 +126,36 @@ unless_made() {
   echo "$of" >"$file.of"
 }
 
-# archive_of CRATE: proves what CRATE depends on, side by side, as `rt staticlib` does not; then CRATE, to target/staticlib/libCRATE.a.
-archive_of() {
-  local below from
-  below=$(behind "$1" | sed "/^$1\$/d")
-  # shellcheck disable=SC2086
-  [ -z "$below" ] || "$prover" rt check $below || return
-  from=$SECONDS
-  "$prover" rt staticlib "$1" || return
-  [ "$prover" = quietly ] || echo "rt: $1 proved ($((SECONDS - from)) s), to target/staticlib/lib$1.a"
+# put_program CRATE FILE: copies the program that rt has linked. A file that runs is replaced, not written into.
+put_program() {
+  mkdir -p "$(dirname "$2")"
+  rm -f "$2"
+  cp "crates/$1/out/$1" "$2"
+}
+
+# link_program CRATE FILE ARGUMENT ..: proves the crate and what it rests on, and links it. rt has no way to that but to run the program too; on a
+# processor that is not x86-64 that may fail, and then what counts is that it was linked.
+link_program() {
+  local crate=$1 file=$2
+  shift 2
+  rm -f "crates/$crate/out/$crate"
+  "$prover" in_crate "$crate" rt run -- "$@" </dev/null || [ "$(uname -m)" != x86_64 ] || return
+  put_program "$crate" "$file"
+}
+
+# take_program CRATE FILE OF: after rt ci, which has proved and linked the program too; OF is what made_of said before it.
+take_program() {
+  put_program "$1" "$2" || return
+  echo "$3" >"$2.of"
 }
 
 # link_command FILE: the x86-64 executable of the command.
 link_command() {
-  local kit
-  need_cc || return
-  archive_of command || return
-  kit=$(dirname "$(dirname "$(rt doc)")")
-  mkdir -p "$(dirname "$1")"
-  cc_for -O2 -Wall -Wextra -Werror crates/command/main.c target/staticlib/libcommand.a "$kit/lib/libos_c.a" -o "$1"
+  link_program command "$1" --version
+}
+
+link_lister() {
+  link_program lister "$1"
 }
 
 # emulated EXECUTABLE: the script that runs it, from the script's own folder, on a processor that is not x86-64.
@@ -138,13 +167,19 @@ exec qemu-x86_64 -L /usr/x86_64-linux-gnu "\$(dirname "\$(readlink -f "\$0")")/$
 END
 }
 
-# link_archive FILE: the library's archive. The toolchain names it after its crate.
+# link_archive FILE: proves the C names and what they rest on, and makes the library's archive. The toolchain names it after its crate.
 link_archive() {
-  archive_of c_names && cp target/staticlib/libc_names.a "$1"
+  "$prover" in_crate c_names rt lib || return
+  mkdir -p "$(dirname "$1")"
+  cp crates/c_names/out/libc_names.a "$1"
 }
 
 need_archive() {
   unless_made "$archive" c_names link_archive "$archive"
+}
+
+need_lister() {
+  unless_made "$lister" lister link_lister "$lister"
 }
 
 if [ "$(uname -m)" = x86_64 ]; then

@@ -51,16 +51,16 @@ def page_calls(page):
 
 
 def library_differences(text, page):
-    """vanc.3. A number's words stand behind its name, up to the first full stop that ends a line."""
+    """vanc.3. A number's words are the first line behind its name, with a full stop."""
     constants = dict(re.findall(r"^#define (VANC_\w+) (\d+)$", text, flags=re.M))
     del constants["VANC_VERSION_NUMBER"]
-    rows = re.findall(r"^\.It Dv (VANC_\w+) No = (\d+)\n(.*?(?:\n(?!\.).*?)*?)\.$", section(page, "RETURN VALUES"), flags=re.M)
+    rows = re.findall(r"^\.It Dv (VANC_\w+) No = (\d+)\n(.*)\.$", section(page, "RETURN VALUES"), flags=re.M)
     compared = {
         "calls": (page_calls(page), header.header_functions(text)),
         "structs": (header.header_structs(header.without_comments(page)), header.header_structs(text)),
         "constants": (dict(re.findall(r"\bDv (VANC_\w+) Ta (\d+)\b", page)), constants),
         "names": ([(name, int(number)) for name, number, _ in rows], header.header_names(text)),
-        "words": ([(int(number), plain(words).replace("\n", " ")) for _, number, words in rows], header.header_words(text)),
+        "words": ([(int(number), plain(words)) for _, number, words in rows], header.header_words(text)),
     }
     said = []
     for what, pair in compared.items():
@@ -79,7 +79,6 @@ WRONG_ONE = [
     ("its stored checksum is wrong", "its checksum is wrong"),
     (".It 18 Ta packet", ".It 17 Ta packet"),
     (".It 20 Ta ", ".It 21 Ta "),
-    (".It 29 Ta packet", ".It 21 Ta packet"),
     (".It 11 Ta 0 Ta packets and locations differ in number\n", ""),
     ("of version ", "of version 1"),
 ]
@@ -87,7 +86,6 @@ WRONG_THREE = [
     ("VANC_REFUSED_CUT No = 9", "VANC_REFUSED_CUT No = 8"),
     ("VANC_REFUSED_CUT No = 9", "VANC_REFUSED_SHORT No = 9"),
     ("VANC_REFUSED_PICTURE_LINE No = 20", "VANC_REFUSED_PICTURE_LINE No = 21"),
-    ("VANC_REFUSED_PROFILE No = 29", "VANC_REFUSED_PROFILE No = 21"),
     ("its stored checksum is wrong.", "its checksum is wrong."),
     ('.Fa "bool fi"\n', ""),
     ("uint64_t packs;", "uint32_t packs;"),
@@ -96,7 +94,6 @@ WRONG_THREE = [
     ("VANC_ELEMENT_MAX Ta ", "VANC_ELEMENT_MAX Ta 1"),
     ("VANC_ELEMENT10_MAX Ta ", "VANC_ELEMENT10_MAX Ta 1"),
     (".Fo vanc_mxf_read10", ".Fo vanc_mxf_read8"),
-    (".Fo vanc_lay_eight", ".Fo vanc_lay_8"),
     ("of version ", "of version 1"),
     ("whose number is ", "whose number is 1"),
 ]

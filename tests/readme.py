@@ -13,8 +13,6 @@ import sys
 PAGE = "README.md"
 # The one block that is not pasted: it runs this test.
 GATE = ["./test", "./test --long"]
-# The block of which the tables are shown: the gate has no other run of the benchmark.
-BENCH = ["bench/run"]
 # Words of blocks that link the library, which is for x86-64.
 LINKING = re.compile(r"^(cc|gcc|rustc) |pkg-config", re.MULTILINE)
 MARKS = ("sh", "text")
@@ -149,10 +147,6 @@ def main():
     paste(pasted, copy, work)
     for block in pasted:
         judge(block, outputs.get(block), work)
-    tables = [said(work, f"{block.line}.out") for block in pasted if block.lines == BENCH]
-    if len(tables) != 1:
-        sys.exit(f"readme: {PAGE}: the block {BENCH[0]}, by which the gate judges the speed, stands there {len(tables)} times, not once")
-    print(tables[0], end="")
     print(f"readme: {len(pasted)} blocks pasted, what {len(outputs)} of them print compared")
 
 

@@ -18,7 +18,7 @@ mkdir -p "$copy/target"
 git ls-files -z --cached --others --exclude-standard | while IFS= read -r -d '' file; do
   [ ! -e "$file" ] || printf '%s\0' "$file"
 done | tar -c --null -T - | tar -x -C "$copy"
-cp -a target/rlib target/stamp target/staticlib "$copy/target"
+cp -a target/staticlib "$copy/target"
 cp -a --parents "$executable" "$executable.of" "$copy"
 [ "$command" = "$executable" ] || cp -a --parents "$command" "$copy"
 python3 tests/readme.py "$copy" "$work"

@@ -1,5 +1,5 @@
-"""A second implementation of document 01's rules and of the requests A2, A3, A6, A13 and A14, written from the documents and not from the Rattle
-code: the tests' cases are made with it, and it says what has to come out."""
+"""A second implementation of document 01's rules and of the requests A2, A3, A6 and A13, written from the documents and not from the Rattle code:
+the tests' cases are made with it, and it says what has to come out."""
 import struct
 
 LAST = {1: 1125, 2: 1125, 3: 750}
@@ -195,17 +195,8 @@ def spread(system, user, area):
         at += size
 
 
-# Request A14: RP 291-2, 6.5.1, for equipment that drops the two low bits.
-PROFILE = frozenset((did, sdid) for did in (0x04, 0x08, 0x0C) for sdid in range(0x04, 0x100, 4))
-
-
-def first_outside(packets):
-    """The first packet outside the eight-bit profile; nothing where there is none."""
-    return next((k for k, (_, _, words) in enumerate(packets) if (words[3] & 0xFF, words[4] & 0xFF) not in PROFILE), None)
-
-
-def lay(packing, s, area, eight=False):
-    """(number, place, word, packs, bytes); the area is changed on success alone. With `eight` packets have to be within the eight-bit profile."""
+def lay(packing, s, area):
+    """(number, place, word, packs, bytes); the area is changed on success alone."""
     if packing not in (1, 2):
         return 1, 0, 0, 0, 0
     number, place, at_fault, packets = sheet_tests(s)
@@ -215,9 +206,6 @@ def lay(packing, s, area, eight=False):
         return 4, 0, 0, 0, 0
     if number:
         return number, place, at_fault, 0, 0
-    outside = first_outside(packets) if eight else None
-    if outside is not None:
-        return 29, outside, 0, 0, 0
     fitting = user_bytes(packing, s[1], packets)
     if fitting is None:
         return 12, 0, 0, 0, 0

@@ -2,10 +2,10 @@
  * Answers requests on standard input with calls of libvanc, on standard output, until the input ends.
  *
  * Request: five numbers (64 bits, low byte first): call (0 lay, 1 read, 2 walk, 3 mxf write, 4 mxf read, 5 test packet, 6 mxf write10, 7 mxf
- * read10, 8 lay eight), packing or system, place or FI, length of what the call reads, length of what it may write, both in bytes; then those
- * bytes. A sheet's numbers and a packet's words have their low byte first.
+ * read10), packing or system, place or FI, length of what the call reads, length of what it may write, both in bytes; then those bytes. A sheet's
+ * numbers and a packet's words have their low byte first.
  * Answer: five numbers, the result's fields in the header's order and then 0; a sixth, 0 or the bits of what was changed that may not be
- * (see CHANGED_), and of lay eight a bit where it is unlike lay; then all bytes of what the call may write.
+ * (see CHANGED_); then all bytes of what the call may write.
  *
  * answer            lends buffers with guard bytes on both sides
  * answer exact      lends buffers that are allocated to the byte, without guards: for valgrind
@@ -20,10 +20,10 @@
 
 #include "vanc.h"
 
-enum { LAY, READ, WALK, MXF_WRITE, MXF_READ, TEST_PACKET, MXF_WRITE10, MXF_READ10, LAY_EIGHT };
+enum { LAY, READ, WALK, MXF_WRITE, MXF_READ, TEST_PACKET, MXF_WRITE10, MXF_READ10 };
 enum { GUARDED, EXACT, FENCED };
 /* Guards of what a call reads; for what it writes two bits higher, 4 and 8. */
-enum { CHANGED_BEFORE = 1, CHANGED_BEHIND = 2, CHANGED_READ_ONLY = 16, UNLIKE_LAY = 32 };
+enum { CHANGED_BEFORE = 1, CHANGED_BEHIND = 2, CHANGED_READ_ONLY = 16 };
 enum { GUARD = 64, GUARD_BYTE = 0xA7 };
 
 /* A buffer that is lent to a call: `whole` with `room` bytes is its memory. */
@@ -93,31 +93,10 @@ static void get(void *to, size_t length)
         fail("the request ends early");
 }
 
-static bool is_same(vanc_laid a, vanc_laid b)
-{
-    return a.number == b.number && a.place == b.place && a.word == b.word && a.packs == b.packs && a.bytes == b.bytes;
-}
-
-/* Lays by the profile, and into a second area without it. Where the first is not 29 both are the same; where it is, only room can lack. */
-static vanc_laid lay_eight(const uint64_t request[5], lent from, lent to, uint64_t *bits)
-{
-    lent second = lend(to.length);
-    memcpy(second.bytes, to.bytes, to.length);
-    vanc_laid plain = vanc_lay((const uint16_t *)from.bytes, from.length / 2, request[1], second.bytes, second.length);
-    vanc_laid r = vanc_lay_eight((const uint16_t *)from.bytes, from.length / 2, request[1], to.bytes, to.length);
-    bool alike = is_same(r, plain) && memcmp(to.bytes, second.bytes, to.length) == 0;
-    if (r.number == VANC_REFUSED_PROFILE)
-        alike = plain.number == VANC_DONE || plain.number == VANC_REFUSED_ROOM;
-    *bits |= changed(second) << 2 | (alike ? 0 : UNLIKE_LAY);
-    take_back(second);
-    return r;
-}
-
 static void call(const uint64_t request[5], lent from, lent to, uint64_t answer[6])
 {
-    if (request[0] == LAY || request[0] == LAY_EIGHT) {
-        vanc_laid r = request[0] == LAY ? vanc_lay((const uint16_t *)from.bytes, from.length / 2, request[1], to.bytes, to.length)
-                                        : lay_eight(request, from, to, &answer[5]);
+    if (request[0] == LAY) {
+        vanc_laid r = vanc_lay((const uint16_t *)from.bytes, from.length / 2, request[1], to.bytes, to.length);
         memcpy(answer, (uint64_t[]){ r.number, r.place, r.word, r.packs, r.bytes }, 5 * sizeof *answer);
     } else if (request[0] == READ) {
         vanc_read_back r = vanc_read(request[1], from.bytes, from.length, (uint16_t *)to.bytes, to.length / 2);
@@ -154,7 +133,7 @@ static void answer_request(const uint64_t request[5])
 
     call(request, from, to, answer);
 
-    answer[5] |= changed(from) | changed(to) << 2;
+    answer[5] = changed(from) | changed(to) << 2;
     if (memcmp(copy, from.bytes, from.length) != 0)
         answer[5] |= CHANGED_READ_ONLY;
     fwrite(answer, sizeof *answer, 6, stdout);

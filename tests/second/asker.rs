@@ -53,7 +53,7 @@ fn bytes_of(numbers: &[u16]) -> Vec<u8> {
 /// The bytes of a request.
 pub fn request(call: &Call) -> Vec<u8> {
     let (first, second, reads, writes) = match call {
-        Call::Lay { sheet, packing, area, .. } => (*packing, 0, bytes_of(sheet), area.clone()),
+        Call::Lay { sheet, packing, area } => (*packing, 0, bytes_of(sheet), area.clone()),
         Call::Read { system, area, buffer } => (*system, 0, area.clone(), bytes_of(buffer)),
         Call::Walk { system, string, place } => (*system, *place, string.clone(), Vec::new()),
         Call::MxfWrite { sheet, fi, element, .. } => (0, u64::from(*fi), bytes_of(sheet), element.clone()),

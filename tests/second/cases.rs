@@ -4,11 +4,10 @@ use crate::random::Random;
 use crate::rules::{self, system, system_before_a3, System, Systems, FORMER_LIMIT, MOST_PACKETS};
 use crate::{element, element10, element_read_cases, element_write_cases, lay_cases, packet, packet_cases, read_cases, walk_cases};
 
-/// What a call is given. Of laying `eight` says whether the profile of request A14 is asked for. Of elements `ten` says which coding: the ten-bit
-/// one of request A13, or the 8-bit one of request A1.
+/// What a call is given. Of elements `ten` says which coding: the ten-bit one of request A13, or the 8-bit one of request A1.
 #[derive(Clone, PartialEq)]
 pub enum Call {
-    Lay { eight: bool, sheet: Vec<u16>, packing: u64, area: Vec<u8> },
+    Lay { sheet: Vec<u16>, packing: u64, area: Vec<u8> },
     Read { system: u64, area: Vec<u8>, buffer: Vec<u16> },
     Walk { system: u64, string: Vec<u8>, place: u64 },
     MxfWrite { ten: bool, sheet: Vec<u16>, fi: bool, element: Vec<u8> },
@@ -44,21 +43,13 @@ pub const MXF_READ: usize = 4;
 pub const TEST_PACKET: usize = 5;
 pub const MXF_WRITE10: usize = 6;
 pub const MXF_READ10: usize = 7;
-pub const LAY_EIGHT: usize = 8;
-pub const CALLS: usize = 9;
-pub const NAMES: [&str; CALLS] =
-    ["lay", "read", "walk", "mxf write", "mxf read", "test packet", "mxf write10", "mxf read10", "lay eight"];
+pub const CALLS: usize = 8;
+pub const NAMES: [&str; CALLS] = ["lay", "read", "walk", "mxf write", "mxf read", "test packet", "mxf write10", "mxf read10"];
 
 impl Call {
     pub fn which(&self) -> usize {
         match self {
-            Call::Lay { eight, .. } => {
-                if *eight {
-                    LAY_EIGHT
-                } else {
-                    LAY
-                }
-            }
+            Call::Lay { .. } => LAY,
             Call::Read { .. } => READ,
             Call::Walk { .. } => WALK,
             Call::MxfWrite { ten, .. } => {
@@ -79,7 +70,7 @@ impl Call {
         }
     }
 
-    /// The answer by document 01 and the requests A1, A2, A3, A6, A13 and A14.
+    /// The answer by document 01 and the requests A1, A2, A3, A6 and A13.
     pub fn expected(&self) -> Answer {
         self.expected_by(system)
     }
@@ -92,8 +83,8 @@ impl Call {
     fn expected_by(&self, systems: Systems) -> Answer {
         let mut answer = Answer { fields: [0; 5], changed: 0, bytes: Vec::new(), buffer: Vec::new() };
         match self {
-            Call::Lay { eight, sheet, packing, area } => {
-                let laid = rules::lay_either(*eight, systems, sheet, *packing, area);
+            Call::Lay { sheet, packing, area } => {
+                let laid = rules::lay_by(systems, sheet, *packing, area);
                 answer.fields = [laid.number, laid.place, laid.word, laid.packs, laid.bytes];
                 answer.bytes = laid.area;
             }
@@ -148,18 +139,17 @@ pub fn how_many(packets: usize) -> String {
     }
 }
 
-/// About a third of the cases are of elements, in either coding, a fourteenth of packets alone and an eleventh of laying by the profile.
+/// More than a third of the cases are of elements, in either coding, and a twelfth of packets alone.
 pub fn make(seed: u64, case: u64) -> Case {
     let mut random = Random::of_case(seed, case);
-    match random.weighted(&[230, 230, 86, 90, 100, 80, 90, 100, 100]) {
-        LAY => lay_cases::make(&mut random, false),
+    match random.weighted(&[230, 230, 86, 90, 100, 80, 90, 100]) {
+        LAY => lay_cases::make(&mut random),
         READ => read_cases::make(&mut random),
         WALK => walk_cases::make(&mut random),
         MXF_WRITE => element_write_cases::make(&mut random, false),
         MXF_READ => element_read_cases::make(&mut random, false),
         MXF_WRITE10 => element_write_cases::make(&mut random, true),
         MXF_READ10 => element_read_cases::make(&mut random, true),
-        LAY_EIGHT => lay_cases::make(&mut random, true),
         _ => packet_cases::make(&mut random),
     }
 }

@@ -45,7 +45,7 @@ fn middle(random: &mut Random) -> Vec<usize> {
 
 /// From the former limit to the limit, mostly of DC 0, some of 1, 2 and 3: often as many as the frame holds of the smallest (780 or 936 in
 /// packing 1, 1,062 or 1,275 in packing 2) or one more, and as many user bytes as are left then, or one more.
-pub fn many(random: &mut Random, system: &System, packing: u64) -> (String, Vec<usize>) {
+fn many(random: &mut Random, system: &System, packing: u64) -> (String, Vec<usize>) {
     let (room, least) = (room(&system.blocks(), packing), if packing == 1 { 2 } else { 7 });
     let (fitting, any, most) = (room / least, random.between(FORMER_LIMIT + 1, MOST_PACKETS), MOST_PACKETS);
     let count = random.pick(&[FORMER_LIMIT, FORMER_LIMIT + 1, any, any, fitting, fitting + 1, most - 1, most, most, most]).min(most);

@@ -1,4 +1,4 @@
-//! Compares libvanc with a second implementation of document 01 and the requests A1, A2, A3, A6, A13 and A14, on cases made by chance.
+//! Compares libvanc with a second implementation of document 01 and the requests A1, A2, A3, A6 and A13, on cases made by chance.
 //!
 //! second SEED CASES COMMAND [ARG..]         asks COMMAND (answer.c) CASES cases; exits with 1 on a mismatch or a number never met
 //! second --case SEED CASE COMMAND [ARG..]   makes one case again and shows it
@@ -6,8 +6,6 @@
 mod as_found;
 mod asker;
 mod cases;
-mod eight_cases;
-mod eight_met;
 mod element;
 mod element10;
 mod element_faults;
@@ -17,8 +15,6 @@ mod element_write_cases;
 mod figures;
 #[cfg(test)]
 mod figures10;
-#[cfg(test)]
-mod figures8;
 mod found;
 mod lay_cases;
 mod lines;
@@ -27,7 +23,6 @@ mod pack_faults;
 mod packet;
 mod packet_cases;
 mod pairs;
-mod profile;
 mod random;
 mod read_cases;
 mod rules;
@@ -55,8 +50,6 @@ use tally::Tally;
 
 /// From this many cases on, each number has to be met.
 const ENOUGH: u64 = 100_000;
-/// From this many on, what request A14 asks for: a tenth of a whole run.
-const ENOUGH_FOR_EIGHT: u64 = 19_000;
 /// Rows that a run shows of each part of a case.
 const ROWS: usize = 40;
 /// Cases that may be under way at once.
@@ -119,11 +112,7 @@ fn run(seed: u64, cases: u64, command: &[String]) -> io::Result<bool> {
     let ended_well = child.wait()?.success();
     println!("seed {seed}");
     tally.show();
-    let missed = match cases {
-        ENOUGH.. => tally.missed(),
-        ENOUGH_FOR_EIGHT.. => tally.missed_by_eight(),
-        _ => Vec::new(),
-    };
+    let missed = if cases >= ENOUGH { tally.missed() } else { Vec::new() };
     for words in &missed {
         println!("never met: {words}");
     }

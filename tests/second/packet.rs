@@ -124,18 +124,6 @@ pub fn found_in_front(words: &[u16]) -> Result<Vec<u16>, Fault> {
     Ok(words[3..7 + dc].to_vec())
 }
 
-/// Words cut where their DCs say that packets end. Those that do not make a packet stand as a last one.
-pub fn by_dc(words: &[u16]) -> Vec<&[u16]> {
-    let mut packets = Vec::new();
-    let mut left = words;
-    while !left.is_empty() {
-        let length = left.get(5).map_or(left.len(), |dc| (dc & 0xFF) as usize + 7).min(left.len());
-        packets.push(&left[..length]);
-        left = &left[length..];
-    }
-    packets
-}
-
 /// What the test of a packet gives back.
 pub struct Judged {
     pub number: u64,

@@ -1,13 +1,13 @@
 //! Faults beside a picture line: what a call would answer without test 20, or answers before it.
 
-use crate::cases::{Call, LAY, LAY_EIGHT, MXF_READ, MXF_READ10, MXF_WRITE, MXF_WRITE10, READ, WALK};
+use crate::cases::{Call, LAY, MXF_READ, MXF_READ10, MXF_WRITE, MXF_WRITE10, READ, WALK};
 use crate::element::HEAD;
 use crate::rules::{system, System};
 use crate::smaller::{by_packet, by_starter};
 use crate::smaller_element::structure_length;
 
 /// Of each call the numbers that have to be met where 20 is given and they would be without it; 0 where nothing else is wrong.
-const BEHIND_20: [(usize, &[u64]); 8] = [
+const BEHIND_20: [(usize, &[u64]); 7] = [
     (LAY, &[0, 7, 8, 9, 10, 11, 12]),
     (READ, &[0, 5, 14, 15, 16, 17]),
     (WALK, &[0]),
@@ -15,12 +15,11 @@ const BEHIND_20: [(usize, &[u64]); 8] = [
     (MXF_READ, &[0, 5, 17]),
     (MXF_WRITE10, &[0, 7, 8, 9, 11, 17, 18]),
     (MXF_READ10, &[0, 5, 17]),
-    (LAY_EIGHT, &[0, 7, 8, 9, 10, 11, 29, 12]),
 ];
 
 /// Of each call the numbers that have to be met before 20, and where the picture line is: `BEFORE`, `THERE` and `BEHIND` for a place that is a
 /// packet or a location, else `SOMEWHERE`. A line cannot be 16 and 20 at once.
-const BEFORE_20: [(usize, u64, &[&str]); 17] = [
+const BEFORE_20: [(usize, u64, &[&str]); 14] = [
     (LAY, 4, &[SOMEWHERE]),
     (LAY, 5, &[SOMEWHERE]),
     (LAY, 6, &[BEFORE, THERE, BEHIND]),
@@ -35,9 +34,6 @@ const BEFORE_20: [(usize, u64, &[&str]); 17] = [
     (MXF_WRITE10, 5, &[SOMEWHERE]),
     (MXF_WRITE10, 6, &[BEFORE, THERE, BEHIND]),
     (MXF_READ10, 19, &[SOMEWHERE]),
-    (LAY_EIGHT, 4, &[SOMEWHERE]),
-    (LAY_EIGHT, 5, &[SOMEWHERE]),
-    (LAY_EIGHT, 6, &[BEFORE, THERE, BEHIND]),
 ];
 
 const BEFORE: &str = "before it";

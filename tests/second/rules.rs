@@ -3,7 +3,6 @@
 
 use crate::lines::{Row, ROW_1080, ROW_720, ROW_OF_ANY_LINE};
 use crate::packet::{danc, found_in_front, from_danc, packet_in_front, sheet, Fault, Found, Packet};
-use crate::profile::refuse_outside;
 
 /// What laying gives back, and the area after it.
 pub struct Laid {
@@ -126,31 +125,27 @@ pub const SHEET_MAX: usize = 4 + 2 * MOST_PACKETS + LONGEST_STRING;
 // Laying.
 
 pub fn lay(sheet: &[u16], packing: u64, area: &[u8]) -> Laid {
-    lay_either(false, system, sheet, packing, area)
+    lay_by(system, sheet, packing, area)
 }
 
-/// Laying, where `eight` says whether request A14's profile is asked for. "On refusal the later figures are 0 and the area [..] is unchanged."
-pub fn lay_either(eight: bool, systems: Systems, sheet: &[u16], packing: u64, area: &[u8]) -> Laid {
-    laying(eight, systems, sheet, packing, area).unwrap_or_else(|refusal| {
+/// "On refusal the later figures are 0 and the area [..] is unchanged."
+pub fn lay_by(systems: Systems, sheet: &[u16], packing: u64, area: &[u8]) -> Laid {
+    laying(systems, sheet, packing, area).unwrap_or_else(|refusal| {
         let SheetRefusal { number, place, word } = refusal;
         Laid { number, place, word, packs: 0, bytes: 0, area: area.to_vec() }
     })
 }
 
 /// "Laying tests 1 to 6 in table order. Then packet by packet: 7; 8 on DID, SDID and DC; 9; 8 on the user words; 10. Then 11, 12." Request A3
-/// has 20 behind 6, and A14: "29 with the packet, after 11 and before 12, only if the profile is asked for."
-fn laying(eight: bool, systems: Systems, sheet: &[u16], packing: u64, area: &[u8]) -> Result<Laid, SheetRefusal> {
+/// has 20 behind 6.
+fn laying(systems: Systems, sheet: &[u16], packing: u64, area: &[u8]) -> Result<Laid, SheetRefusal> {
     refuse_if(packing != 1 && packing != 2, 1, 0)?;
     let (sections, system) = sections_and_system(systems, sheet)?;
     refuse_if(area.len() != system.area_bytes(), 4, 0)?;
-    let list = packets_of_sections(&sections, &system)?;
-    let dancs: Vec<Vec<u8>> = list.iter().map(danc).collect();
+    let dancs: Vec<Vec<u8>> = packets_of_sections(&sections, &system)?.iter().map(danc).collect();
     let (blocks, string) = (system.blocks(), dancs.concat());
-    let used = if packing == 1 { packs_of_five(&dancs).len() } else { string.len() };
-    if eight {
-        refuse_outside(&list)?;
-    }
     // "12: over the packs (packing 1) or string bytes (packing 2)"
+    let used = if packing == 1 { packs_of_five(&dancs).len() } else { string.len() };
     refuse_if(used > room(&blocks, packing), 12, 0)?;
     let packs = if packing == 1 { packs_of_five(&dancs) } else { long_packs(&string, &blocks) };
     Ok(Laid {

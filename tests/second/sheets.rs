@@ -254,33 +254,6 @@ fn locations_differ(random: &mut Random, draft: &mut Draft) -> &'static str {
     "locations and packets differ"
 }
 
-/// A location less than packets or one more, and nothing else wrong.
-pub fn one_location_off(random: &mut Random, draft: &mut Draft) {
-    let count = draft.locations.len();
-    if count > 0 && (count == MOST_PACKETS || random.chance(50)) {
-        draft.locations.pop();
-    } else {
-        draft.locations.push([0, 0]);
-    }
-}
-
-/// Puts a fault of one sort to a packet or its location: 6, 20, 7, 8, 10, or for the last packet, which has a user word, 9.
-pub fn put_fault_at(random: &mut Random, draft: &mut Draft, system: &System, k: usize) {
-    let (last, words) = (draft.packets.len() - 1, &mut draft.packets[k]);
-    let end = words.len() - 1;
-    match random.below(6) {
-        0 => draft.locations[k][0] = system.last_line + 1,
-        1 => draft.locations[k][0] = picture_line(random, system),
-        2 => words[random.below(3)] ^= 1,
-        3 => words[random.between(3, end - 1)] ^= 0x100,
-        4 => words[end] ^= 0x200,
-        _ => {
-            let left = draft.packets[last].len();
-            draft.packets[last].truncate(random.between(7, left - 1));
-        }
-    }
-}
-
 /// Packets of about 65,535 words, exactly as many, or of more than a sheet can count: so many packets, of so many words together.
 pub fn packets_near_the_limit(random: &mut Random, system: &System) -> Vec<Packet> {
     let (count, words) = random.pick(&[

@@ -3,7 +3,6 @@
 use std::fmt::UpperHex;
 
 use crate::cases::{Answer, Call, CALLS, NAMES};
-use crate::packet::by_dc;
 use crate::smaller_element::structure_length;
 use crate::tally::NUMBERS;
 
@@ -16,14 +15,13 @@ const FIELDS: [&[&str]; CALLS] = [
     &["number", "word", "kind"],
     &["number", "place", "word", "packets", "bytes"],
     &["number", "place", "packets", "numbers"],
-    &["number", "place", "word", "packs", "bytes"],
 ];
 
 /// What a call is given, each part in at most `most` rows.
 pub fn show_call(call: &Call, most: usize) {
     match call {
-        Call::Lay { sheet, packing, area, .. } => {
-            println!("  {}, packing {packing}", NAMES[call.which()]);
+        Call::Lay { sheet, packing, area } => {
+            println!("  lay, packing {packing}");
             println!("  sheet of {} numbers, hex:", sheet.len());
             show_rows(&sheet_rows(sheet), most);
             println!("  area of {} bytes; those that are not FFh, by offset:", area.len());
@@ -115,7 +113,14 @@ fn sheet_rows(sheet: &[u16]) -> Vec<String> {
 
 /// A row for each packet, as far as the DCs lead.
 fn packet_rows(words: &[u16]) -> Vec<String> {
-    by_dc(words).into_iter().map(|packet| format!("   {}", hex_numbers(packet))).collect()
+    let mut left = words;
+    let mut rows = Vec::new();
+    while !left.is_empty() {
+        let length = left.get(5).map_or(left.len(), |dc| (dc & 0xFF) as usize + 7).min(left.len());
+        rows.push(format!("   {}", hex_numbers(&left[..length])));
+        left = &left[length..];
+    }
+    rows
 }
 
 /// The bytes that are not FFh, in runs, by their offset.
@@ -158,10 +163,7 @@ pub fn show_answer(title: &str, call: &Call, answer: &Option<Answer>) {
     let fields: Vec<String> = FIELDS[call.which()].iter().zip(answer.fields).map(|(name, value)| format!("{name} {value}")).collect();
     println!("  {title}: {}", fields.join(", "));
     if answer.changed != 0 {
-        println!(
-            "    changed beyond what was lent for writing, or unlike laying without the profile (bits of answer.c): {}",
-            answer.changed
-        );
+        println!("    changed beyond what was lent for writing (bits of answer.c): {}", answer.changed);
     }
 }
 
@@ -189,8 +191,7 @@ pub fn show_numbers(met: &[[u64; NUMBERS]; CALLS], cannot: impl Fn(usize, usize)
         println!("{first:>8} {}", cells.join(" "));
     };
     row("number", NAMES.iter().map(|name| name.to_string()).collect());
-    // A number that no call gives has no row.
-    for number in (0..NUMBERS).filter(|&number| (0..CALLS).any(|call| !cannot(call, number))) {
+    for number in 0..NUMBERS {
         let cell =
             |call: usize| if cannot(call, number) && met[call][number] == 0 { "-".to_string() } else { met[call][number].to_string() };
         row(&number.to_string(), (0..CALLS).map(cell).collect());

@@ -6,7 +6,6 @@ use crate::cases::Call;
 use crate::element::{self, ELEMENT_SHEET_MAX};
 use crate::element10::{self, ELEMENT10_MAX};
 use crate::packet;
-use crate::profile::{has_did, has_sdid};
 use crate::rules::{area_with, lay, long_packs, read, system, SHEET_MAX};
 
 /// A measure of how much a call is given that matters: numbers of the sheet, user bytes up to the fill, bytes of the string or element.
@@ -52,7 +51,7 @@ fn sheet(call: &Call) -> Option<Vec<u16>> {
 /// element that gives this sheet, without padding.
 fn with_sheet(call: &Call, sheet: Vec<u16>) -> Option<Call> {
     match call {
-        Call::Lay { eight, packing, area, .. } => Some(Call::Lay { eight: *eight, sheet, packing: *packing, area: area.clone() }),
+        Call::Lay { packing, area, .. } => Some(Call::Lay { sheet, packing: *packing, area: area.clone() }),
         Call::MxfWrite { ten, fi, element, .. } => Some(Call::MxfWrite { ten: *ten, sheet, fi: *fi, element: element.clone() }),
         Call::Read { system, area, .. } => {
             let packing = read(*system, area, &[0; SHEET_MAX]).packing;
@@ -88,7 +87,13 @@ fn parts(call: &Call) -> Option<Parts> {
     if sheet[3 + 2 * count] as usize != words.len() {
         return None;
     }
-    let packets = packet::by_dc(words).into_iter().map(<[u16]>::to_vec).collect();
+    let mut packets = Vec::new();
+    let mut left = words;
+    while !left.is_empty() {
+        let length = left.get(5).map_or(left.len(), |dc| (dc & 0xFF) as usize + 7).min(left.len());
+        packets.push(left[..length].to_vec());
+        left = &left[length..];
+    }
     let locations = sheet[3..3 + 2 * count].chunks(2).map(|pair| [pair[0], pair[1]]).collect();
     Some(Parts { head: [sheet[0], sheet[1]], locations, packets })
 }
@@ -191,26 +196,17 @@ pub fn with_one_user_word_less(call: &Call, start: usize, count: usize) -> Optio
     with_user_words(call, start, count, |dc| dc.saturating_sub(1))
 }
 
-/// The packets in the run become DID 45h, SDID 01h and user bytes 00h, with the same DC. Where the profile is asked for, a DID or SDID within it
-/// becomes 04h, and one outside it, which the answer may hang on, stays.
+/// The packets in the run become DID 45h, SDID 01h and user bytes 00h, with the same DC.
 pub fn with_plain_packets(call: &Call, start: usize, count: usize) -> Option<Call> {
     let mut parts = parts(call)?;
     let run = run(start, count, parts.packets.len());
     for words in parts.packets[run].iter_mut().filter(|words| words.len() >= 7) {
         let dc = words.len() - 7;
-        let (did, sdid) = match call {
-            Call::Lay { eight: true, .. } => plain_in_profile(words[3] as u8, words[4] as u8),
-            _ => (0x45, 0x01),
-        };
-        let mut bytes = vec![did, sdid, dc as u8];
+        let mut bytes = vec![0x45, 0x01, dc as u8];
         bytes.resize(3 + dc, 0x00);
         *words = packet::words(&packet::Packet { line: 0, flags: 0, bytes });
     }
     with_parts(call, parts)
-}
-
-fn plain_in_profile(did: u8, sdid: u8) -> (u8, u8) {
-    (if has_did(did) { 0x04 } else { did }, if has_sdid(sdid) { 0x04 } else { sdid })
 }
 
 // Areas.
@@ -225,7 +221,7 @@ fn area(call: &Call) -> &[u8] {
 
 fn with_area(call: &Call, area: Vec<u8>) -> Option<Call> {
     match call {
-        Call::Lay { eight, sheet, packing, .. } => Some(Call::Lay { eight: *eight, sheet: sheet.clone(), packing: *packing, area }),
+        Call::Lay { sheet, packing, .. } => Some(Call::Lay { sheet: sheet.clone(), packing: *packing, area }),
         Call::Read { system, buffer, .. } => Some(Call::Read { system: *system, area, buffer: buffer.clone() }),
         _ => None,
     }

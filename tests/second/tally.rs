@@ -2,16 +2,16 @@
 
 use std::collections::BTreeMap;
 
-use crate::cases::{Call, CALLS, LAY, LAY_EIGHT, MXF_READ, MXF_READ10, MXF_WRITE, MXF_WRITE10, NAMES, READ, TEST_PACKET, WALK};
+use crate::as_found::{met, wanted};
+use crate::cases::{Call, CALLS, LAY, MXF_READ, MXF_READ10, MXF_WRITE, MXF_WRITE10, NAMES, READ, TEST_PACKET, WALK};
 use crate::pairs::{pair, pairs};
 use crate::show::show_numbers;
-use crate::{as_found, eight_met};
 
-/// 0, and the refusals 1 to 29.
-pub const NUMBERS: usize = 30;
+/// 0, and the refusals 1 to 20.
+pub const NUMBERS: usize = 21;
 
 /// Numbers that a call cannot give, and why.
-const CANNOT: [(usize, &[usize], &str); 24] = [
+const CANNOT: [(usize, &[usize], &str); 23] = [
     (LAY, &[13, 14, 15, 16], "laying does not look at packs or strings that are there already"),
     (LAY, &[17], "laying writes neither a sheet nor an element"),
     (LAY, &[18, 19], "these are tests of an element's packets and of an element"),
@@ -39,21 +39,19 @@ const CANNOT: [(usize, &[usize], &str); 24] = [
     (MXF_READ10, &[1, 4, 12, 13, 14, 15, 16], "as for mxf read"),
     (MXF_READ10, &[2, 6, 7, 8, 9, 10, 11], "as for mxf read; what is read may be damaged"),
     (MXF_READ10, &[18], "as for mxf read"),
-    (LAY_EIGHT, &[13, 14, 15, 16, 17, 18, 19], "as for lay"),
 ];
 
 /// From this packet or location on a refusal is late: its place has more than ten bits.
 const LATE: u64 = 1_024;
 
 /// Numbers whose place is a packet or a location, and that have to be met as late as that.
-const BY_PACKET: [(usize, &[usize]); 7] = [
+const BY_PACKET: [(usize, &[usize]); 6] = [
     (LAY, &[6, 7, 8, 9, 10, 20]),
     (READ, &[5, 14, 15, 16, 20]),
     (MXF_WRITE, &[18, 20]),
     (MXF_READ, &[5, 20]),
     (MXF_WRITE10, &[7, 8, 9, 18, 20]),
     (MXF_READ10, &[5, 20]),
-    (LAY_EIGHT, &[29]),
 ];
 
 /// Of the words that request A2 names, those that have to be met with each number: from the first to the last of a run, one of them. 260 is the
@@ -114,7 +112,7 @@ fn name_of((number, first, last): &(u64, u64, u64)) -> String {
 fn shapes(call: usize) -> Vec<String> {
     let all = WORDS.iter().flat_map(|run| match (call, run) {
         (READ | WALK | MXF_READ | MXF_READ10, _) => vec![],
-        (MXF_WRITE10, (10, ..)) | (LAY | MXF_WRITE | TEST_PACKET | LAY_EIGHT, (8, 261, _)) => vec![],
+        (MXF_WRITE10, (10, ..)) | (LAY | MXF_WRITE | TEST_PACKET, (8, 261, _)) => vec![],
         (TEST_PACKET, (7, 0..=2, _)) => FLAG.map(|how| format!("{}, {how}", name_of(run))).to_vec(),
         _ => vec![name_of(run)],
     });
@@ -122,22 +120,11 @@ fn shapes(call: usize) -> Vec<String> {
 }
 
 fn cannot(call: usize, number: usize) -> bool {
-    match number {
-        // Of requests that are not in yet.
-        21..=28 => true,
-        // "only if the profile is asked for"
-        29 => call != LAY_EIGHT,
-        _ => CANNOT.iter().any(|(of, numbers, _)| *of == call && numbers.contains(&number)),
-    }
-}
-
-/// What the requests A13 and A14 ask for, that has to be met in a call.
-fn wanted(call: usize) -> Vec<String> {
-    [as_found::wanted(call), eight_met::wanted(call)].concat()
+    CANNOT.iter().any(|(of, numbers, _)| *of == call && numbers.contains(&number))
 }
 
 /// Counts of a run: numbers by call, those with a late place too, shapes of words by call, types of sound packets, faults beside a picture line,
-/// what the requests A13 and A14 ask for, and kinds of cases.
+/// what request A13 asks for, and kinds of cases.
 pub struct Tally {
     met: [[u64; NUMBERS]; CALLS],
     late: [[u64; NUMBERS]; CALLS],
@@ -176,7 +163,7 @@ impl Tally {
         if let Some(pair) = pair(call, fields).filter(|_| number != 0) {
             *self.pairs.entry((which, pair)).or_default() += 1;
         }
-        for one in as_found::met(call, fields).into_iter().chain(eight_met::met(call, fields)) {
+        for one in met(call, fields) {
             *self.found.entry((which, one)).or_default() += 1;
         }
         *self.kinds.entry(kind).or_default() += 1;
@@ -186,22 +173,12 @@ impl Tally {
         self.met.iter().flatten().sum()
     }
 
-    /// Numbers that can be met in a call, and what the requests A13 and A14 ask for, that were not.
-    fn missed_on(&self, call: usize) -> Vec<String> {
-        let missed = (0..NUMBERS).filter(|&number| self.met[call][number] == 0 && !cannot(call, number));
-        let never = missed.map(|number| format!("{number} on {}", NAMES[call]));
-        let not_found = wanted(call).into_iter().filter(|one| !self.found.contains_key(&(call, one.clone())));
-        never.chain(not_found.map(|one| format!("{one}, on {}", NAMES[call]))).collect()
-    }
-
-    /// The same of laying by the profile, which many fewer cases have to meet.
-    pub fn missed_by_eight(&self) -> Vec<String> {
-        self.missed_on(LAY_EIGHT)
-    }
-
-    /// The same of all calls, and numbers with a late place, shapes of words, types of packets and faults beside a picture line.
+    /// Numbers that can be met in a call, or with a late place, and shapes of words, types of packets, faults beside a picture line and what
+    /// request A13 asks for, that were not.
     pub fn missed(&self) -> Vec<String> {
-        let never = (0..CALLS).flat_map(|call| self.missed_on(call));
+        let all = (0..CALLS).flat_map(|call| (0..NUMBERS).map(move |number| (call, number)));
+        let missed = all.filter(|&(call, number)| self.met[call][number] == 0 && !cannot(call, number));
+        let never = missed.map(|(call, number)| format!("{number} on {}", NAMES[call]));
         let late = BY_PACKET.iter().flat_map(|&(call, numbers)| numbers.iter().map(move |&number| (call, number)));
         let never_late = late.filter(|&(call, number)| self.late[call][number] == 0);
         let never_late = never_late.map(|(call, number)| format!("{number} on {}, at {LATE} or later", NAMES[call]));
@@ -210,7 +187,9 @@ impl Tally {
         let no_type = (0..2).filter(|&k| self.types[k] == 0).map(|k| format!("a sound packet of type {}", k + 1));
         let pairs = (0..CALLS).flat_map(|call| pairs(call).into_iter().map(move |pair| (call, pair)));
         let no_pair = pairs.filter(|pair| !self.pairs.contains_key(pair)).map(|(call, pair)| format!("{pair}, on {}", NAMES[call]));
-        never.chain(never_late).chain(no_shape).chain(no_type).chain(no_pair).collect()
+        let found = (0..CALLS).flat_map(|call| wanted(call).into_iter().map(move |one| (call, one)));
+        let not_found = found.filter(|one| !self.found.contains_key(one)).map(|(call, one)| format!("{one}, on {}", NAMES[call]));
+        never.chain(never_late).chain(no_shape).chain(no_type).chain(no_pair).chain(not_found).collect()
     }
 
     pub fn show(&self) {
@@ -228,17 +207,17 @@ impl Tally {
             println!("  {}: {}", NAMES[call], late.join(", "));
         }
         println!("first words at fault:");
-        for call in [LAY, MXF_WRITE, TEST_PACKET, MXF_WRITE10, LAY_EIGHT] {
+        for call in [LAY, MXF_WRITE, TEST_PACKET, MXF_WRITE10] {
             let times = |shape: String| format!("{shape}: {}", self.words.get(&(call, shape.clone())).unwrap_or(&0));
             println!("  {}: {}", NAMES[call], shapes(call).into_iter().map(times).collect::<Vec<_>>().join("; "));
         }
         println!("faults beside a picture line:");
-        for call in [LAY, READ, WALK, MXF_WRITE, MXF_READ, MXF_WRITE10, MXF_READ10, LAY_EIGHT] {
+        for call in [LAY, READ, WALK, MXF_WRITE, MXF_READ, MXF_WRITE10, MXF_READ10] {
             let times = |pair: String| format!("{pair}: {}", self.pairs.get(&(call, pair.clone())).unwrap_or(&0));
             println!("  {}: {}", NAMES[call], pairs(call).into_iter().map(times).collect::<Vec<_>>().join("; "));
         }
-        println!("as found, the fields of elements, and the profile:");
-        for call in [MXF_READ, MXF_WRITE10, MXF_READ10, LAY_EIGHT] {
+        println!("as found, and the fields of elements:");
+        for call in [MXF_READ, MXF_WRITE10, MXF_READ10] {
             let times = |one: String| format!("{one}: {}", self.found.get(&(call, one.clone())).unwrap_or(&0));
             println!("  {}: {}", NAMES[call], wanted(call).into_iter().map(times).collect::<Vec<_>>().join("; "));
         }

@@ -3,47 +3,35 @@
 #![tactic(auto)]
 
 use frame::{Channel, Hd720x60p, Hd1080x50i, Hd1080x60i, Sequence, Sequences};
+use std::io;
 
-fn number(n: usize) {
-    io::print_decimal(libc::STDOUT_FILENO, n as u64);
-}
-
-fn text(t: &[u8]) {
-    io::write_all(libc::STDOUT_FILENO, t);
-}
-
-fn line(n: u8, q: u8, j: u8, i: u8) {
-    number(q as usize);
-    text(b" VA ");
-    number(j as usize);
-    text(b",");
-    number(i as usize);
-    text(b" ");
-    number(frame::block_start(Sequences(n), Channel(i), Sequence(q), j));
-    text(b"\n");
+fn line(rt: &impl Print, n: u8, q: u8, j: u8, i: u8) -> io::Result<()> {
+    let start = frame::block_start(Sequences(n), Channel(i), Sequence(q), j);
+    println!(rt; "{q} VA {j},{i} {start}")
 }
 
 // Within a block by channel.
-fn channels(n: u8, q: u8, j: u8) {
-    line(n, q, j, 0);
-    line(n, q, j, 1);
-    line(n, q, j, 2);
-    line(n, q, j, 3);
+fn channels(rt: &impl Print, n: u8, q: u8, j: u8) -> io::Result<()> {
+    line(rt, n, q, j, 0)?;
+    line(rt, n, q, j, 1)?;
+    line(rt, n, q, j, 2)?;
+    line(rt, n, q, j, 3)
 }
 
 // By sequence, within it by block.
-fn sequences(n: u8) {
+fn sequences(rt: &impl Print, n: u8) -> io::Result<()> {
     let mut q = 0;
     while q < n {
-        channels(n, q, 0);
-        channels(n, q, 1);
-        channels(n, q, 2);
+        channels(rt, n, q, 0)?;
+        channels(rt, n, q, 1)?;
+        channels(rt, n, q, 2)?;
         q += 1;
     }
+    Ok(())
 }
 
-fn main() {
-    sequences(Hd1080x60i::SEQUENCES as u8);
-    sequences(Hd1080x50i::SEQUENCES as u8);
-    sequences(Hd720x60p::SEQUENCES as u8);
+fn main(rt: HostRuntime) -> io::Result<()> {
+    sequences(&rt, Hd1080x60i::SEQUENCES as u8)?;
+    sequences(&rt, Hd1080x50i::SEQUENCES as u8)?;
+    sequences(&rt, Hd720x60p::SEQUENCES as u8)
 }

@@ -6,7 +6,6 @@ ghost use Rattle.std.specs.Prelude.{◌≡◌};
 ghost use Rattle.rules.specs.Demands.{Judges, Lays, Reads};
 ghost use Rattle.mxf.specs.Demands.{Writes as WritesElement, Reads as ReadsElement};
 ghost use Rattle.mxf10.specs.Demands.{WritesTen, ReadsTen};
-ghost use Rattle.profile.specs.Demands.{LaysStrict};
 ghost use Rattle.rules.specs.Walker.{walk as walked};
 
 use frame::StringByte;
@@ -25,13 +24,6 @@ pub extern "C" fn vanc_lay(sheet: &[u16], packing: u64, area: &mut [u8]) -> Laid
     ensures { Lays packing sheet.now area.old result area.new }
 {
     vanc::lay(sheet, packing, area)
-}
-
-#[unsafe(no_mangle)]
-pub extern "C" fn vanc_lay_eight(sheet: &[u16], packing: u64, area: &mut [u8]) -> Laid
-    ensures { LaysStrict packing sheet.now area.old result area.new }
-{
-    profile::lay(sheet, packing, area)
 }
 
 #[unsafe(no_mangle)]

@@ -2,7 +2,10 @@
 ghost use Rattle.std.specs.Prelude.{◌≤◌};
 ghost use Rattle.io.specs.Counts.{IsPrefixLen};
 
-use libc::PATH_MAX;
+use file_status::PATH_MAX;
+use file_status::errors::EINVAL;
+use std::env::FillError;
+use std::rt::Env;
 
 // More than any number that is read from digits.
 pub const NOT_A_NUMBER: u64 = 18446744073709551615;
@@ -63,34 +66,46 @@ const QUOTED: usize = 64;
 
 // Argument i, at the start of a buffer: how long it is. One that is longer than the buffer is its start and two dots, which no command, number or
 // system is.
-pub fn word(i: usize, buf: &mut [u8]) -> usize
+pub fn word(rt: &impl Env, i: usize, buf: &mut [u8]) -> usize
     ensures { IsPrefixLen result buf.new }
 {
-    let n = os::arg(i, buf);
-    if n == 0 && os::errno() == libc::ENAMETOOLONG {
-        return text::put_text(buf, QUOTED, b"..");
+    match rt.arg(i, buf) {
+        Ok(n) => n,
+        Err(FillError::TooLong) => text::put_text(buf, QUOTED, b".."),
+        Err(FillError::NotPresent) => 0,
     }
-    n
+}
+
+// How many arguments there are, the program's own name among them.
+pub fn count(rt: &impl Env) -> usize {
+    let mut none = [0u8; 0];
+    for i in 0..usize::MAX {
+        if matches!(rt.arg(i, &mut none), Err(FillError::NotPresent)) {
+            return i;
+        }
+    }
+    usize::MAX
 }
 
 // The number that is argument i; `NOT_A_NUMBER` where it is none, which is then said by the name, which has a colon behind it.
-pub fn number(i: usize, name: &[u8]) -> u64 {
-    let mut said = io::buffer();
-    let k = word(i, &mut said);
+pub fn number(rt: &HostRuntime, i: usize, name: &[u8]) -> u64 {
+    let mut said = [0u8; PATH_MAX];
+    let k = word(rt, i, &mut said);
     let n = number_of(&said[..k]);
     if n == NOT_A_NUMBER {
-        files::say_quoted(name, &said[..k], b" is no number");
+        files::say_quoted(rt, name, &said[..k], b" is no number");
     }
     n
 }
 
 // The system that is argument i; `NOT_A_NUMBER` where it is none, which is then said.
-pub fn system(i: usize) -> u64 {
-    let mut said = io::buffer();
-    let k = word(i, &mut said);
+pub fn system(rt: &HostRuntime, i: usize) -> u64 {
+    let mut said = [0u8; PATH_MAX];
+    let k = word(rt, i, &mut said);
     let n = system_of(&said[..k]);
     if n == NOT_A_NUMBER {
         files::say_quoted(
+            rt,
             b"SYSTEM: ",
             &said[..k],
             b" is neither a number nor 1080/60i, 1080/50i or 720/60p",
@@ -100,37 +115,40 @@ pub fn system(i: usize) -> u64 {
 }
 
 // The FI, 0 or 1, that is argument i; `NOT_A_NUMBER` where it is neither, which is then said.
-pub fn fi(i: usize) -> u64 {
-    let mut said = io::buffer();
-    let k = word(i, &mut said);
+pub fn fi(rt: &HostRuntime, i: usize) -> u64 {
+    let mut said = [0u8; PATH_MAX];
+    let k = word(rt, i, &mut said);
     let n = number_of(&said[..k]);
     if n < 2 {
         return n;
     }
-    files::say_quoted(b"FI: ", &said[..k], b" is neither 0 nor 1");
+    files::say_quoted(rt, b"FI: ", &said[..k], b" is neither 0 nor 1");
     NOT_A_NUMBER
 }
 
 // The file name that is argument i, at the start of a buffer: how long it is; 0 where there is none, which is then said.
-pub fn path(i: usize, name: &[u8], path: &mut [u8]) -> usize
+pub fn path(rt: &HostRuntime, i: usize, name: &[u8], path: &mut [u8]) -> usize
     ensures { IsPrefixLen result path.new }
 {
-    let n = os::arg(i, path);
-    if n == 0 {
-        say_no_path(name);
-        return 0;
+    match rt.arg(i, path) {
+        Ok(n) => {
+            if n == 0 {
+                files::say(rt, name, b": an empty name");
+                return 0;
+            }
+            if PATH_MAX <= n {
+                files::say(rt, name, b": File name too long");
+                return 0;
+            }
+            n
+        }
+        Err(FillError::TooLong) => {
+            files::say(rt, name, b": File name too long");
+            0
+        }
+        Err(FillError::NotPresent) => {
+            files::fail(rt, name, b"", EINVAL);
+            0
+        }
     }
-    if PATH_MAX <= n {
-        files::say(name, b": File name too long");
-        return 0;
-    }
-    n
-}
-
-fn say_no_path(name: &[u8]) {
-    if os::errno() != 0 {
-        files::fail(name, b"");
-        return;
-    }
-    files::say(name, b": an empty name");
 }

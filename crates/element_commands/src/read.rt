@@ -15,17 +15,24 @@ use sheet_file::NUMBERS;
 const LONGEST: usize = 262144;
 
 // A longer sheet than a sheet file can have, which no command would take, is 17.
-fn refuse(r: ElementRead, system: u64, element: &[u8], bytes: &[u8], sheet: &[u8]) -> i32 {
+fn refuse(
+    rt: &HostRuntime,
+    r: ElementRead,
+    system: u64,
+    element: &[u8],
+    bytes: &[u8],
+    sheet: &[u8],
+) -> i32 {
     if r.number == 3 {
-        return ending::refused(b"SYSTEM", r.number, r.place);
+        return ending::refused(rt, b"SYSTEM", r.number, r.place);
     }
     if r.number == 20 {
         let line = lines::in_element(bytes, r.place);
-        return ending::line_refused(element, r.place, system, line);
+        return ending::line_refused(rt, element, r.place, system, line);
     }
-    let status = ending::refused(element, r.number, r.place);
+    let status = ending::refused(rt, element, r.number, r.place);
     if r.number == 17 {
-        ending::say_length(sheet);
+        ending::say_length(rt, sheet);
     }
     status
 }
@@ -49,6 +56,7 @@ fn read_element(
 }
 
 fn read_and_replace(
+    rt: &HostRuntime,
     ten: bool,
     system: u64,
     fi: bool,
@@ -62,9 +70,9 @@ fn read_and_replace(
     let mut file = [0u8; sheet_file::LONGEST];
     let r = read_element(ten, system, fi, bytes, &mut s, &mut file);
     if r.number != 0 {
-        return refuse(r, system, element, bytes, sheet);
+        return refuse(rt, r, system, element, bytes, sheet);
     }
-    if !files::replace_by_first(sheet, path, is, &file, 2 * r.numbers) {
+    if !files::replace_by_first(rt, sheet, path, is, &file, 2 * r.numbers) {
         return FAILED;
     }
     let mut line = [0u8; 96];
@@ -75,14 +83,21 @@ fn read_and_replace(
         b" numbers ",
         r.numbers,
     );
-    ending::printed(&line[..n], DONE, sheet)
+    ending::printed(rt, &line[..n], DONE, sheet)
 }
 
 // One byte more than the longest element file is read, so that a longer file is seen to be longer.
-fn read_files(ten: bool, system: u64, fi: bool, element: &[u8], sheet: &[u8]) -> i32 {
+fn read_files(
+    rt: &HostRuntime,
+    ten: bool,
+    system: u64,
+    fi: bool,
+    element: &[u8],
+    sheet: &[u8],
+) -> i32 {
     let mut path = io::buffer();
     let mut bytes = [0u8; LONGEST + 1];
-    let j = files::begin(element, sheet, &mut path, &mut bytes);
+    let j = files::begin(rt, element, sheet, &mut path, &mut bytes);
     if !j.done {
         return FAILED;
     }
@@ -90,21 +105,31 @@ fn read_files(ten: bool, system: u64, fi: bool, element: &[u8], sheet: &[u8]) ->
     let n = j.bytes;
     let is = j.is;
     if LONGEST < n {
-        files::say(element, b": longer than the 262144 bytes that are read");
+        files::say(rt, element, b": longer than the 262144 bytes that are read");
         return FAILED;
     }
-    read_and_replace(ten, system, fi, element, &bytes[..n], sheet, &path[..p], is)
+    read_and_replace(
+        rt,
+        ten,
+        system,
+        fi,
+        element,
+        &bytes[..n],
+        sheet,
+        &path[..p],
+        is,
+    )
 }
 
-pub fn run(ten: bool) -> i32 {
-    let system = arguments::system(2);
-    let fi = arguments::fi(3);
+pub fn run(rt: &HostRuntime, ten: bool) -> i32 {
+    let system = arguments::system(rt, 2);
+    let fi = arguments::fi(rt, 3);
     let mut element = io::buffer();
-    let n = arguments::path(4, b"ELEMENT", &mut element);
+    let n = arguments::path(rt, 4, b"ELEMENT", &mut element);
     let mut sheet = io::buffer();
-    let m = arguments::path(5, b"SHEET", &mut sheet);
+    let m = arguments::path(rt, 5, b"SHEET", &mut sheet);
     if system == NOT_A_NUMBER || fi == NOT_A_NUMBER || n == 0 || m == 0 {
         return FAILED;
     }
-    read_files(ten, system, fi == 1, &element[..n], &sheet[..m])
+    read_files(rt, ten, system, fi == 1, &element[..n], &sheet[..m])
 }

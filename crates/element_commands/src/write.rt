@@ -27,14 +27,22 @@ fn write_element(
     file_codec::write_element(file, fi, s, bytes)
 }
 
-fn refuse(ten: bool, r: ElementWritten, sheet: &[u8], file: &[u8], s: &[u16; NUMBERS]) -> i32 {
+fn refuse(
+    rt: &HostRuntime,
+    ten: bool,
+    r: ElementWritten,
+    sheet: &[u8],
+    file: &[u8],
+    s: &[u16; NUMBERS],
+) -> i32 {
     if ten {
-        return ending::found_refused(sheet, file, r.number, r.place, r.word, s);
+        return ending::found_refused(rt, sheet, file, r.number, r.place, r.word, s);
     }
-    ending::sheet_refused(sheet, file, r.number, r.place, r.word, s)
+    ending::sheet_refused(rt, sheet, file, r.number, r.place, r.word, s)
 }
 
 fn write_and_replace(
+    rt: &HostRuntime,
     ten: bool,
     fi: bool,
     sheet: &[u8],
@@ -47,9 +55,9 @@ fn write_and_replace(
     let mut bytes = [0u8; LONGEST];
     let r = write_element(ten, file, fi, &mut s, &mut bytes);
     if r.number != 0 {
-        return refuse(ten, r, sheet, file, &s);
+        return refuse(rt, ten, r, sheet, file, &s);
     }
-    if !files::replace_by_first(element, path, is, &bytes, r.bytes) {
+    if !files::replace_by_first(rt, element, path, is, &bytes, r.bytes) {
         return FAILED;
     }
     let mut line = [0u8; 96];
@@ -60,31 +68,31 @@ fn write_and_replace(
         b" bytes ",
         r.bytes,
     );
-    ending::printed(&line[..n], DONE, element)
+    ending::printed(rt, &line[..n], DONE, element)
 }
 
 // One byte more than the longest sheet file is read, so that a longer file is seen to be longer.
-fn write_files(ten: bool, fi: bool, sheet: &[u8], element: &[u8]) -> i32 {
+fn write_files(rt: &HostRuntime, ten: bool, fi: bool, sheet: &[u8], element: &[u8]) -> i32 {
     let mut path = io::buffer();
     let mut file = [0u8; sheet_file::LONGEST + 1];
-    let j = files::begin(sheet, element, &mut path, &mut file);
+    let j = files::begin(rt, sheet, element, &mut path, &mut file);
     if !j.done {
         return FAILED;
     }
     let p = j.path;
     let n = j.bytes;
     let is = j.is;
-    write_and_replace(ten, fi, sheet, &file[..n], element, &path[..p], is)
+    write_and_replace(rt, ten, fi, sheet, &file[..n], element, &path[..p], is)
 }
 
-pub fn run(ten: bool) -> i32 {
-    let fi = arguments::fi(2);
+pub fn run(rt: &HostRuntime, ten: bool) -> i32 {
+    let fi = arguments::fi(rt, 2);
     let mut sheet = io::buffer();
-    let n = arguments::path(3, b"SHEET", &mut sheet);
+    let n = arguments::path(rt, 3, b"SHEET", &mut sheet);
     let mut element = io::buffer();
-    let m = arguments::path(4, b"ELEMENT", &mut element);
+    let m = arguments::path(rt, 4, b"ELEMENT", &mut element);
     if fi == NOT_A_NUMBER || n == 0 || m == 0 {
         return FAILED;
     }
-    write_files(ten, fi == 1, &sheet[..n], &element[..m])
+    write_files(rt, ten, fi == 1, &sheet[..n], &element[..m])
 }

@@ -1,17 +1,24 @@
 // What the system says of a file: its kind, mode and owner, and which file it is; and what a link names.
 //
-// `ask_open` and `ask_path` lend C's struct by a reference, which the borrow checker does not cover: each is two statements and is proved by a walk
-// by hand. No contract can say what the system answers, so the public ones say only in what ranges the numbers are.
+// No contract can say what the system answers, so the public ones say only in what ranges the numbers are.
 #![tactic(auto)]
 
-ghost use Rattle.std.specs.Prelude.{◌<◌, ◌≡◌, eqb, pos};
+ghost use Rattle.std.specs.Prelude.{◌<◌, ◌≡◌, eqb};
+ghost use Rattle.std.specs.Fs.{metadata_mode};
 ghost use Rattle.io.specs.Counts.{IsPrefixLen};
-ghost use Rattle.libc.specs.Io.{Ended, Status};
 ghost use Rattle.file_status.specs.Known.{Ranged, Tells, both};
 
-use libc::{PATH_MAX, types};
+use errors::{EILSEQ, EINVAL, EIO, ENAMETOOLONG, ENOENT};
+use std::fs::{File, Metadata};
+use std::os::unix::fs::MetadataExt;
+use std::path::PathBuf;
+use std::rt::Files;
+use std::{fs, io, str};
 
-const LAST: usize = PATH_MAX - 1;
+pub mod errors;
+
+// A path has fewer bytes than this: the system reads so many, and the last is a 0.
+pub const PATH_MAX: usize = 4096;
 
 // The kinds of files, as C's S_IFMT has them, in 4096ths. 0 is no kind.
 pub const FIFO: u32 = 1;
@@ -24,7 +31,7 @@ pub const SOCKET: u32 = 12;
 
 // What is known of a file. `error` is 0, or an error's number, and then the rest is 0. `mode` has the twelve bits that C's fchmod takes. Two names
 // are of one file where `device` and `number` are the same.
-#[derive(Drop)]
+#[derive(Clone, Copy)]
 pub struct Known {
     pub error: i32,
     pub kind: u32,
@@ -35,36 +42,35 @@ pub struct Known {
     pub number: u64,
 }
 
-// C's answer, 0 or -1, and what lay in the struct after the call.
-#[derive(Drop)]
+// What the system answered of a file: C's st_mode, st_uid, st_gid, st_dev and st_ino.
+#[derive(Clone, Copy)]
 pub struct Asked {
-    pub answer: i32,
-    pub is: types::stat,
+    pub mode: u32,
+    pub owner: u32,
+    pub group: u32,
+    pub device: u64,
+    pub number: u64,
 }
 
-// Of what a descriptor is open on.
-pub fn of_descriptor(fd: i32) -> Known
+// Of an open file.
+pub fn of_descriptor(file: &File) -> Known
     ensures { Ranged result }
 {
-    let a = ask_open(fd, blank());
-    told(a, os::errno())
+    known_of(file.metadata())
 }
 
 // Of the file that a path leads to, through a link too. It opens nothing, so it waits for no FIFO.
-pub fn of_path(path: &[u8]) -> Known
+pub fn of_path(rt: &impl Files, path: &[u8]) -> Known
     ensures { Ranged result }
 {
-    let error = no_path(path);
-    if error != 0 {
-        return unknown(error);
+    match path_text(path) {
+        Ok(path) => known_of(fs::metadata(rt, path)),
+        Err(e) => unknown(errors::number_of(e)),
     }
-    let name = ended(path);
-    let a = ask_path(&name, blank());
-    told(a, os::errno())
 }
 
 // What a link names: how many bytes, and none where there is no link. `error` is 0, or an error's number where it is not known whether there is one.
-#[derive(Drop)]
+#[derive(Clone, Copy)]
 pub struct Link {
     pub bytes: usize,
     pub error: i32,
@@ -72,35 +78,39 @@ pub struct Link {
 
 // Of a link that cannot be read: EINVAL says that the file is no link, ENOENT that nothing is there.
 fn no_link(error: i32) -> i32 {
-    if error == libc::EINVAL || error == libc::ENOENT {
+    if error == EINVAL || error == ENOENT {
         return 0;
     }
     error
 }
 
 // What the link that a path leads to names, at the start of a buffer.
-pub fn link_at(path: &[u8], to: &mut [u8]) -> Link
+pub fn link_at<R: Files + Alloc>(rt: &R, path: &[u8], to: &mut [u8]) -> Link
     ensures { IsPrefixLen result.bytes to.new }
 {
-    let error = no_path(path);
-    if error != 0 {
-        return Link {
+    match read_link(rt, path) {
+        Ok(name) => Link {
+            bytes: put(name.as_str().as_bytes(), to),
+            error: 0,
+        },
+        Err(e) => Link {
             bytes: 0,
-            error: error,
-        };
+            error: no_link(errors::number_of(e)),
+        },
     }
-    let name = ended(path);
-    let got = libc::readlink(&name, to);
-    if got < 0 {
-        return Link {
-            bytes: 0,
-            error: no_link(os::errno()),
-        };
-    }
-    Link {
-        bytes: io::count(got, to),
-        error: 0,
-    }
+}
+
+fn read_link<R: Files + Alloc>(rt: &R, path: &[u8]) -> io::Result<PathBuf<R::A>> {
+    fs::read_link(rt, path_text(path)?)
+}
+
+// Puts a name at the start of a buffer, as much as it has room for.
+fn put(name: &[u8], to: &mut [u8]) -> usize
+    ensures { IsPrefixLen result to.new }
+{
+    let n = name.len().min(to.len());
+    to[..n].copy_from_slice(&name[..n]);
+    n
 }
 
 // Whether two files that are known are one.
@@ -113,15 +123,13 @@ pub fn is_same(a: Known, b: Known) -> bool
     false
 }
 
-// Why a path cannot be one, as an error's number; 0 where it can: at most 4,095 bytes, none of them 0.
-fn no_path(path: &[u8]) -> i32 {
-    if path.len() >= PATH_MAX {
-        return libc::ENAMETOOLONG;
+// A path as std takes it, which opens files by names that are text alone: one that is not UTF-8 leads to no file. The system's own bounds, of 4,095
+// bytes and no 0, are std's too.
+pub fn path_text(path: &[u8]) -> io::Result<&str> {
+    match str::from_utf8(path) {
+        Ok(text) => Ok(text),
+        Err(_) => Err(io::Error::from_raw_os_error(EILSEQ)),
     }
-    if has_zero(path) {
-        return libc::EINVAL;
-    }
-    0
 }
 
 // An error of 0 here would say that the file is known, so it is EIO.
@@ -129,7 +137,7 @@ fn unknown(error: i32) -> Known
     ensures { Ranged result }
 {
     Known {
-        error: if error == 0 { libc::EIO } else { error },
+        error: if error == 0 { EIO } else { error },
         kind: 0,
         mode: 0,
         owner: 0,
@@ -139,89 +147,38 @@ fn unknown(error: i32) -> Known
     }
 }
 
-fn told(a: Asked, error: i32) -> Known
-    ensures ranged { Ranged result }
-    ensures known { a.answer ≡ pos 0 → Tells a.is result }
+fn known_of(found: io::Result<Metadata>) -> Known
+    ensures { Ranged result }
 {
-    if a.answer != 0 {
-        return unknown(error);
+    match found {
+        Ok(m) => told(ask(&m)),
+        Err(e) => unknown(errors::number_of(e)),
     }
-    let s = a.is;
-    let m = s.st_mode;
+}
+
+fn ask(m: &Metadata) -> Asked
+    ensures { result.mode ≡ metadata_mode m.now }
+{
+    Asked {
+        mode: m.mode(),
+        owner: m.uid(),
+        group: m.gid(),
+        device: m.dev(),
+        number: m.ino(),
+    }
+}
+
+fn told(a: Asked) -> Known
+    ensures ranged { Ranged result }
+    ensures known { Tells a result }
+{
     Known {
         error: 0,
-        kind: m / 4096 % 16,
-        mode: m % 4096,
-        owner: s.st_uid,
-        group: s.st_gid,
-        device: s.st_dev,
-        number: s.st_ino,
+        kind: a.mode / 4096 % 16,
+        mode: a.mode % 4096,
+        owner: a.owner,
+        group: a.group,
+        device: a.device,
+        number: a.number,
     }
-}
-
-fn blank() -> types::stat {
-    let t = types::timespec {
-        tv_sec: 0,
-        tv_nsec: 0,
-    };
-    types::stat {
-        st_dev: 0,
-        st_ino: 0,
-        st_nlink: 0,
-        st_mode: 0,
-        st_uid: 0,
-        st_gid: 0,
-        __pad: 0,
-        st_rdev: 0,
-        st_size: 0,
-        st_blksize: 0,
-        st_blocks: 0,
-        st_atim: t,
-        st_mtim: t,
-        st_ctim: t,
-        __unused: [0, 0, 0],
-    }
-}
-
-fn has_zero(path: &[u8]) -> bool {
-    let mut i = 0;
-    while i < path.len() {
-        if path[i] == 0 {
-            return true;
-        }
-        i += 1;
-    }
-    false
-}
-
-// As much of a path as leaves room for a 0, and then zeros.
-fn ended(path: &[u8]) -> [u8; PATH_MAX]
-    ensures { Ended result }
-{
-    let mut to = [0u8; PATH_MAX];
-    let mut i = 0;
-    while i < path.len() {
-        if i >= LAST {
-            break;
-        }
-        to[i] = path[i];
-        i += 1;
-    }
-    to[LAST] = 0;
-    to
-}
-
-fn ask_open(fd: i32, mut s: types::stat) -> Asked
-    ensures { Status result.answer }
-{
-    let r = libc::fstat(fd, &mut s);
-    Asked { answer: r, is: s }
-}
-
-fn ask_path(path: &[u8; PATH_MAX], mut s: types::stat) -> Asked
-    requires { Ended path.now }
-    ensures { Status result.answer }
-{
-    let r = libc::stat(path, &mut s);
-    Asked { answer: r, is: s }
 }

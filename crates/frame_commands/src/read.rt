@@ -22,18 +22,19 @@ fn put_read(out: &mut [u8], r: ReadBack) -> usize
     text::put(out, c, b'\n')
 }
 
-fn refuse(r: ReadBack, system: u64, area: &[u8], bytes: &[u8]) -> i32 {
+fn refuse(rt: &HostRuntime, r: ReadBack, system: u64, area: &[u8], bytes: &[u8]) -> i32 {
     if r.number == 3 {
-        return ending::refused(b"SYSTEM", r.number, r.place);
+        return ending::refused(rt, b"SYSTEM", r.number, r.place);
     }
     if r.number == 20 {
         let line = lines::in_area(system, bytes, r.place);
-        return ending::line_refused(area, r.place, system, line);
+        return ending::line_refused(rt, area, r.place, system, line);
     }
-    ending::refused(area, r.number, r.place)
+    ending::refused(rt, area, r.number, r.place)
 }
 
 fn read_and_replace(
+    rt: &HostRuntime,
     system: u64,
     area: &[u8],
     bytes: &[u8],
@@ -45,38 +46,38 @@ fn read_and_replace(
     let mut file = [0u8; 2 * NUMBERS];
     let r = file_codec::read_area(system, bytes, &mut s, &mut file);
     if r.number != 0 {
-        return refuse(r, system, area, bytes);
+        return refuse(rt, r, system, area, bytes);
     }
-    if !files::replace_by_first(sheet, path, is, &file, 2 * r.numbers) {
+    if !files::replace_by_first(rt, sheet, path, is, &file, 2 * r.numbers) {
         return FAILED;
     }
     let mut line = [0u8; 128];
     let n = put_read(&mut line, r);
-    ending::printed(&line[..n], DONE, sheet)
+    ending::printed(rt, &line[..n], DONE, sheet)
 }
 
 // One byte more than the longest area is read, so that a longer file is seen to be longer.
-fn read_files(system: u64, area: &[u8], sheet: &[u8]) -> i32 {
+fn read_files(rt: &HostRuntime, system: u64, area: &[u8], sheet: &[u8]) -> i32 {
     let mut path = io::buffer();
     let mut bytes = [0u8; Hd1080x50i::AREA + 1];
-    let j = files::begin(area, sheet, &mut path, &mut bytes);
+    let j = files::begin(rt, area, sheet, &mut path, &mut bytes);
     if !j.done {
         return FAILED;
     }
     let p = j.path;
     let n = j.bytes;
     let is = j.is;
-    read_and_replace(system, area, &bytes[..n], sheet, &path[..p], is)
+    read_and_replace(rt, system, area, &bytes[..n], sheet, &path[..p], is)
 }
 
-pub fn run() -> i32 {
-    let system = arguments::system(2);
+pub fn run(rt: &HostRuntime) -> i32 {
+    let system = arguments::system(rt, 2);
     let mut area = io::buffer();
-    let n = arguments::path(3, b"AREA", &mut area);
+    let n = arguments::path(rt, 3, b"AREA", &mut area);
     let mut sheet = io::buffer();
-    let m = arguments::path(4, b"SHEET", &mut sheet);
+    let m = arguments::path(rt, 4, b"SHEET", &mut sheet);
     if system == NOT_A_NUMBER || n == 0 || m == 0 {
         return FAILED;
     }
-    read_files(system, &area[..n], &sheet[..m])
+    read_files(rt, system, &area[..n], &sheet[..m])
 }

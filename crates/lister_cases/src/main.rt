@@ -3,6 +3,8 @@
 #![tactic(auto)]
 
 use frame::wide;
+use std::fs::File;
+use std::io;
 
 // One byte more than the longest sheet, as in the lister.
 const ROOM: usize = sheet_file::LONGEST + 1;
@@ -16,35 +18,32 @@ fn size(head: &[u8; 4]) -> usize {
     n
 }
 
-fn show(file: &[u8]) {
+fn show(rt: &impl Print, file: &[u8]) -> io::Result<()> {
     let mut out = [0u8; listing::ROOM];
     let k = listing::listing(file, &mut out);
-    io::write_all(libc::STDOUT_FILENO, &out[..k]);
+    rt.write_all(&out[..k])
 }
 
 // Lists the next case; false where there is none.
-fn list_next(fd: i32) -> bool {
+fn list_next(rt: &impl Print, cases: &mut File) -> io::Result<bool> {
     let mut head = [0u8; 4];
-    if io::read_full(fd, &mut head) < 4 {
-        return false;
+    if files::read_next(cases, &mut head, 4) < 4 {
+        return Ok(false);
     }
     let mut file = [0u8; ROOM];
-    let n = files::read_next(fd, &mut file, size(&head));
-    show(&file[..n]);
-    true
+    let n = files::read_next(cases, &mut file, size(&head));
+    show(rt, &file[..n])?;
+    Ok(true)
 }
 
-fn main() {
-    let fd = os::open_read(b"cases");
-    if fd < 0 {
-        os::fail(b"cases");
-        return;
-    }
+fn main(rt: HostRuntime) -> io::Result<()> {
+    let mut cases = File::open(&rt, "cases")?;
     let mut left: usize = 4096;
     while 0 < left {
-        if !list_next(fd) {
-            return;
+        if !list_next(&rt, &mut cases)? {
+            return Ok(());
         }
         left -= 1;
     }
+    Ok(())
 }

@@ -5,56 +5,55 @@ use crate::names;
 use crate::names::Command;
 use console::ending::{DONE, FAILED};
 use console::{arguments, ending};
-use libc::{STDERR_FILENO, STDOUT_FILENO};
+use std::io::Print;
 
-fn print(page: &[u8]) -> i32 {
-    ending::printed(page, DONE, b"")
+fn print(rt: &HostRuntime, page: &[u8]) -> i32 {
+    ending::printed(rt, page, DONE, b"")
 }
 
-fn write_overview(fd: i32) -> bool {
-    io::write_all(
-        fd,
-        b"vanc lays the ancillary packets of a video frame into a DV frame (SMPTE 375M)\n\
-        or an MXF element (SMPTE ST 436-1), and reads them back.\n\n\
-        \x20 vanc list [SHEET]                        lists the packets of a sheet\n\
-        \x20 vanc lay PACKING SHEET AREA              lays a sheet's packets into the area of a frame\n\
-        \x20 vanc read SYSTEM AREA SHEET              reads the packets of an area to a sheet\n\
-        \x20 vanc mxf-write FI SHEET ELEMENT          writes a sheet's packets as an ANC element\n\
-        \x20 vanc mxf-read SYSTEM FI ELEMENT SHEET    reads the packets of an ANC element to a sheet\n\
-        \x20 vanc help NAME, vanc NAME --help         says more of a command\n\
-        \x20 vanc help refusals                       says the numbers of refusals in words\n\
-        \x20 vanc --version                           says the version\n\n\
-        With --eight behind its arguments, lay takes only packets of the eight-bit profile.\n\
-        With --ten behind its arguments, mxf-write or mxf-read takes samples of ten bits: packets as\n\
-        they are found, damaged ones too.\n\
-        A refusal prints its number and its place (refused 14 at 1). In list, lay and mxf-write the\n\
-        packet's word at fault stands behind them, or 0 (refused 8 at 31 6). Standard error says\n\
-        what is wrong, and what stands in that word. Then no file is changed; a file is replaced\n\
-        whole or not at all.\n\
-        Status: 0 done; 1 refused by the rules; 2 called wrongly, or a file or a stream that could\n\
-        not be read or written.\n",
-    )
-}
+const OVERVIEW: &[u8] =
+    b"vanc lays the ancillary packets of a video frame into a DV frame (SMPTE 375M)\n\
+    or an MXF element (SMPTE ST 436-1), and reads them back.\n\n\
+    \x20 vanc list [SHEET]                        lists the packets of a sheet\n\
+    \x20 vanc lay PACKING SHEET AREA              lays a sheet's packets into the area of a frame\n\
+    \x20 vanc read SYSTEM AREA SHEET              reads the packets of an area to a sheet\n\
+    \x20 vanc mxf-write FI SHEET ELEMENT          writes a sheet's packets as an ANC element\n\
+    \x20 vanc mxf-read SYSTEM FI ELEMENT SHEET    reads the packets of an ANC element to a sheet\n\
+    \x20 vanc help NAME, vanc NAME --help         says more of a command\n\
+    \x20 vanc help refusals                       says the numbers of refusals in words\n\
+    \x20 vanc --version                           says the version\n\n\
+    With --ten behind its arguments, mxf-write or mxf-read takes samples of ten bits: packets as\n\
+    they are found, damaged ones too.\n\
+    A refusal prints its number and its place (refused 14 at 1). In list, lay and mxf-write the\n\
+    packet's word at fault stands behind them, or 0 (refused 8 at 31 6). Standard error says\n\
+    what is wrong, and what stands in that word. Then no file is changed; a file is replaced\n\
+    whole or not at all.\n\
+    Status: 0 done; 1 refused by the rules; 2 called wrongly, or a file or a stream that could\n\
+    not be read or written.\n";
 
-pub fn overview() -> i32 {
-    ending::ended(write_overview(STDOUT_FILENO), DONE, b"")
+pub fn overview(rt: &HostRuntime) -> i32 {
+    print(rt, OVERVIEW)
 }
 
 // For a call without arguments.
-pub fn say_overview() -> i32 {
-    write_overview(STDERR_FILENO);
+pub fn say_overview(rt: &HostRuntime) -> i32 {
+    let _ = Print::write_all(&rt.stderr(), OVERVIEW);
     FAILED
 }
 
 // The version, which include/vanc.h has too, and the toolchain that all was proved with (TOOLCHAIN).
-pub fn version() -> i32 {
-    print(b"vanc 0.7.0, proved with rattle-kit-5b-plain logic 097e4c862dff5811\n")
+pub fn version(rt: &HostRuntime) -> i32 {
+    print(
+        rt,
+        b"vanc 0.6.0, proved with rattle-kit-5b-plain logic 097e4c862dff5811\n",
+    )
 }
 
 // ---- a page for each command
 
-fn page_of_list() -> i32 {
+fn page_of_list(rt: &HostRuntime) -> i32 {
     print(
+        rt,
         b"usage: vanc list [SHEET]\n\n\
         Lists the packets of the sheet file SHEET, or of standard input where none is named: first\n\
         system, packets, string bytes and packs in packing 1; then of each packet its number, line,\n\
@@ -62,20 +61,20 @@ fn page_of_list() -> i32 {
     )
 }
 
-fn page_of_lay() -> i32 {
+fn page_of_lay(rt: &HostRuntime) -> i32 {
     print(
-        b"usage: vanc lay PACKING SHEET AREA [--eight]\n\n\
+        rt,
+        b"usage: vanc lay PACKING SHEET AREA\n\n\
         Lays the packets of the sheet file SHEET into the area in the file AREA, which is replaced:\n\
         the VAUX blocks of one frame, 9600 bytes, or 11520 in 1080/50i.\n\
-        PACKING is 1 (packs of five) or 2 (long packs).\n\
-        --eight: only packets of the eight-bit profile (SMPTE RP 291-2, 6.5.1) are laid, as they are\n\
-        without it: DID 04h, 08h or 0Ch, SDID a multiple of four and not 00h. Another packet is 29.\n\n\
+        PACKING is 1 (packs of five) or 2 (long packs).\n\n\
         Prints: laid packs N bytes N\n",
     )
 }
 
-fn page_of_read() -> i32 {
+fn page_of_read(rt: &HostRuntime) -> i32 {
     print(
+        rt,
         b"usage: vanc read SYSTEM AREA SHEET\n\n\
         Reads the packets of the area in the file AREA, in either packing, to the sheet file SHEET,\n\
         which is made or replaced.\n\
@@ -84,8 +83,9 @@ fn page_of_read() -> i32 {
     )
 }
 
-fn page_of_mxf_write() -> i32 {
+fn page_of_mxf_write(rt: &HostRuntime) -> i32 {
     print(
+        rt,
         b"usage: vanc mxf-write FI SHEET ELEMENT [--ten]\n\n\
         Writes the packets of the sheet file SHEET as an MXF ANC element (SMPTE ST 436-1) to the\n\
         file ELEMENT, which is made or replaced.\n\
@@ -96,8 +96,9 @@ fn page_of_mxf_write() -> i32 {
     )
 }
 
-fn page_of_mxf_read() -> i32 {
+fn page_of_mxf_read(rt: &HostRuntime) -> i32 {
     print(
+        rt,
         b"usage: vanc mxf-read SYSTEM FI ELEMENT SHEET [--ten]\n\n\
         Reads the packets of the MXF ANC element (SMPTE ST 436-1) in the file ELEMENT to the sheet\n\
         file SHEET, which is made or replaced.\n\
@@ -109,29 +110,26 @@ fn page_of_mxf_read() -> i32 {
 }
 
 // The page of a command.
-pub fn of(c: Command, name: &[u8]) -> i32 {
+pub fn of(rt: &HostRuntime, c: Command, name: &[u8]) -> i32 {
     match c {
-        Command::List => page_of_list(),
-        Command::Lay => page_of_lay(),
-        Command::Read => page_of_read(),
-        Command::MxfWrite => page_of_mxf_write(),
-        Command::MxfRead => page_of_mxf_read(),
-        Command::Help => overview(),
-        Command::HelpOption => names::say_usage(c),
-        Command::Version => names::say_usage(c),
-        Command::Unknown => names::say_unknown(name),
+        Command::List => page_of_list(rt),
+        Command::Lay => page_of_lay(rt),
+        Command::Read => page_of_read(rt),
+        Command::MxfWrite => page_of_mxf_write(rt),
+        Command::MxfRead => page_of_mxf_read(rt),
+        Command::Help => overview(rt),
+        Command::HelpOption => names::say_usage(rt, c),
+        Command::Version => names::say_usage(rt, c),
+        Command::Unknown => names::say_unknown(rt, name),
     }
 }
 
 // ---- the numbers of refusals
 
-// A number in two columns, and its words; nothing where no call gives it.
+// A number in two columns, and its words.
 fn put_number(out: &mut [u8], at: usize, number: u64) -> usize
     ensures { IsPrefixLen result out.new }
 {
-    if !refusals::is_given(number) {
-        return text::put_text(out, at, b"");
-    }
     let a = put_column(out, at, number);
     let b = text::put_number(out, a, number);
     let c = text::put_text(out, b, b"  ");
@@ -160,21 +158,21 @@ fn put_refusals(out: &mut [u8]) -> usize
     at
 }
 
-fn table() -> i32 {
+fn table(rt: &HostRuntime) -> i32 {
     let mut page = [0u8; 2048];
     let n = put_refusals(&mut page);
-    print(&page[..n])
+    print(rt, &page[..n])
 }
 
 // vanc help [NAME]
-pub fn run(count: usize) -> i32 {
+pub fn run(rt: &HostRuntime, count: usize) -> i32 {
     if count == 2 {
-        return overview();
+        return overview(rt);
     }
     let mut name = io::buffer();
-    let n = arguments::word(2, &mut name);
+    let n = arguments::word(rt, 2, &mut name);
     if text::is(&name[..n], b"refusals") {
-        return table();
+        return table(rt);
     }
-    of(names::named(&name[..n]), &name[..n])
+    of(rt, names::named(&name[..n]), &name[..n])
 }

@@ -1,7 +1,7 @@
 // The commands by name, and how many arguments each takes. A command that is added stands here, in `help`, and in the crate `command`.
 use console::ending::FAILED;
 
-#[derive(Drop)]
+#[derive(Clone, Copy)]
 pub enum Command {
     List,
     Lay,
@@ -46,7 +46,7 @@ pub fn named(name: &[u8]) -> Command {
 pub fn takes(c: Command, count: usize) -> bool {
     match c {
         Command::List => count == 2 || count == 3,
-        Command::Lay => count == 5 || count == 6,
+        Command::Lay => count == 5,
         Command::Read => count == 5,
         Command::MxfWrite => count == 5 || count == 6,
         Command::MxfRead => count == 6 || count == 7,
@@ -58,23 +58,23 @@ pub fn takes(c: Command, count: usize) -> bool {
 }
 
 // How a command is called, for one who called it otherwise.
-pub fn say_usage(c: Command) -> i32 {
+pub fn say_usage(rt: &HostRuntime, c: Command) -> i32 {
     let how = b"usage: vanc ";
     match c {
-        Command::List => files::say(how, b"list [SHEET]"),
-        Command::Lay => files::say(how, b"lay PACKING SHEET AREA [--eight]"),
-        Command::Read => files::say(how, b"read SYSTEM AREA SHEET"),
-        Command::MxfWrite => files::say(how, b"mxf-write FI SHEET ELEMENT [--ten]"),
-        Command::MxfRead => files::say(how, b"mxf-read SYSTEM FI ELEMENT SHEET [--ten]"),
-        Command::Help => files::say(how, b"help [NAME]"),
-        Command::HelpOption => files::say(how, b"--help"),
-        Command::Version => files::say(how, b"--version"),
-        Command::Unknown => files::say(how, b"NAME .."),
+        Command::List => files::say(rt, how, b"list [SHEET]"),
+        Command::Lay => files::say(rt, how, b"lay PACKING SHEET AREA"),
+        Command::Read => files::say(rt, how, b"read SYSTEM AREA SHEET"),
+        Command::MxfWrite => files::say(rt, how, b"mxf-write FI SHEET ELEMENT [--ten]"),
+        Command::MxfRead => files::say(rt, how, b"mxf-read SYSTEM FI ELEMENT SHEET [--ten]"),
+        Command::Help => files::say(rt, how, b"help [NAME]"),
+        Command::HelpOption => files::say(rt, how, b"--help"),
+        Command::Version => files::say(rt, how, b"--version"),
+        Command::Unknown => files::say(rt, how, b"NAME .."),
     }
     FAILED
 }
 
-pub fn say_unknown(name: &[u8]) -> i32 {
-    files::say_quoted(b"", name, b" is no command; vanc --help lists them");
+pub fn say_unknown(rt: &HostRuntime, name: &[u8]) -> i32 {
+    files::say_quoted(rt, b"", name, b" is no command; vanc --help lists them");
     FAILED
 }

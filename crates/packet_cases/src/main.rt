@@ -7,9 +7,10 @@
 ghost use Rattle.std.specs.Prelude.{◌≡◌, ◌+◌, ◌*◌, ◌<◌, ◌≤◌, length};
 
 use rules::Judged;
+use std::{fs, io};
 
 // `firsts` of the packets are of type 1.
-#[derive(Drop)]
+#[derive(Clone, Copy)]
 pub struct Counts {
     pub packets: u64,
     pub firsts: u64,
@@ -89,12 +90,12 @@ fn flips(ws: &mut [u16], i: usize, number: u64) -> u64
 }
 
 fn counted(c: Counts, number: u64, good: u64) -> Counts {
-    let wrong = std::num::wrapping_add_u64(c.wrong, 10 - good % 11);
+    let wrong = c.wrong.wrapping_add(10 - good % 11);
     if number == 7 {
         return Counts {
             packets: c.packets,
             firsts: c.firsts,
-            sevens: std::num::wrapping_add_u64(c.sevens, good),
+            sevens: c.sevens.wrapping_add(good),
             eights: c.eights,
             tens: c.tens,
             wrong,
@@ -105,7 +106,7 @@ fn counted(c: Counts, number: u64, good: u64) -> Counts {
             packets: c.packets,
             firsts: c.firsts,
             sevens: c.sevens,
-            eights: std::num::wrapping_add_u64(c.eights, good),
+            eights: c.eights.wrapping_add(good),
             tens: c.tens,
             wrong,
         };
@@ -115,7 +116,7 @@ fn counted(c: Counts, number: u64, good: u64) -> Counts {
         firsts: c.firsts,
         sevens: c.sevens,
         eights: c.eights,
-        tens: std::num::wrapping_add_u64(c.tens, good),
+        tens: c.tens.wrapping_add(good),
         wrong,
     }
 }
@@ -146,8 +147,8 @@ fn is_accepted(j: Judged, kind: u64) -> bool {
 
 fn accepted(c: Counts, kind: u64) -> Counts {
     Counts {
-        packets: std::num::wrapping_add_u64(c.packets, 1),
-        firsts: std::num::wrapping_add_u64(c.firsts, kind % 2),
+        packets: c.packets.wrapping_add(1),
+        firsts: c.firsts.wrapping_add(kind % 2),
         sevens: c.sevens,
         eights: c.eights,
         tens: c.tens,
@@ -223,47 +224,38 @@ fn try_all(text: &[u8], ws: &mut [u16]) -> Counts
     c
 }
 
-fn say(text: &[u8], n: u64) {
-    io::write_all(libc::STDOUT_FILENO, text);
-    io::print_decimal(libc::STDOUT_FILENO, n);
-    io::write_all(libc::STDOUT_FILENO, b"\n");
+fn say(rt: &impl Print, text: &str, n: u64) -> io::Result<()> {
+    println!(rt; "{text}{n}")
 }
 
 // CS of so many words 3FFh. Their low nine bits come to 511 for each, so to 512 less their number, modulo 512.
-fn say_check(ws: &[u16]) {
-    io::write_all(libc::STDOUT_FILENO, b"CS of words 3FFh, ");
-    io::print_decimal(libc::STDOUT_FILENO, ws.len() as u64);
-    say(b" of them: ", packet::check_of(ws) as u64);
+fn say_check(rt: &impl Print, ws: &[u16]) -> io::Result<()> {
+    let n = ws.len();
+    let check = packet::check_of(ws);
+    println!(rt; "CS of words 3FFh, {n} of them: {check}")
 }
 
 // The most words that a packet sums, one less, and longer lists, which are summed in parts.
-fn check_long_lists() {
+fn check_long_lists(rt: &impl Print) -> io::Result<()> {
     let ws = [0x3FFu16; 1000];
-    say_check(&ws[..0]);
-    say_check(&ws[..257]);
-    say_check(&ws[..258]);
-    say_check(&ws[..259]);
-    say_check(&ws[..516]);
-    say_check(&ws[..517]);
-    say_check(&ws);
+    say_check(rt, &ws[..0])?;
+    say_check(rt, &ws[..257])?;
+    say_check(rt, &ws[..258])?;
+    say_check(rt, &ws[..259])?;
+    say_check(rt, &ws[..516])?;
+    say_check(rt, &ws[..517])?;
+    say_check(rt, &ws)
 }
 
-fn main() {
-    check_long_lists();
-    let fd = os::open_read(b"words291.txt");
-    if fd < 0 {
-        os::fail(b"words291.txt");
-        return;
-    }
-    let mut text = [0u8; 200000];
-    let n = io::read_full(fd, &mut text);
-    libc::close(fd);
+fn main(rt: HostRuntime) -> io::Result<()> {
+    check_long_lists(&rt)?;
+    let text = fs::read(&rt, "words291.txt")?;
     let mut ws = [0u16; 262];
-    let c = try_all(&text[..n], &mut ws);
-    say(b"packets accepted, word for word: ", c.packets);
-    say(b"of these of type 1, and said to be: ", c.firsts);
-    say(b"flips refused with 7 at the word: ", c.sevens);
-    say(b"flips refused with 8 at the word: ", c.eights);
-    say(b"flips refused with 10 at the word: ", c.tens);
-    say(b"flips with another answer: ", c.wrong);
+    let c = try_all(&text, &mut ws);
+    say(&rt, "packets accepted, word for word: ", c.packets)?;
+    say(&rt, "of these of type 1, and said to be: ", c.firsts)?;
+    say(&rt, "flips refused with 7 at the word: ", c.sevens)?;
+    say(&rt, "flips refused with 8 at the word: ", c.eights)?;
+    say(&rt, "flips refused with 10 at the word: ", c.tens)?;
+    say(&rt, "flips with another answer: ", c.wrong)
 }

@@ -13,7 +13,7 @@ use native.Mathlib.Omega.{arith}
 use lib.Dec.{eqb, ltb}
 use lib.ListN.{length, get_or, take, drop, set, replicate, length-drop}
 use lib.Seq.{sets, length-sets, get_or-take, get_or-drop, drop-drop, take-take, length-take-le}
-use borrow.Author.Tests.{lt-ltb, le-ltb, eq-eqb, ne_eqb}
+use borrow.Author.Tests.{eq-eqb, ne_eqb}
 use Rattle.rules.specs.Base.{all_is, sum, one}
 use Rattle.rules.specs.Packing2.{Opened, opened, shut, onto, open_pack, open_long, string_room}
 use Rattle.rules.proofs.Basics.{never, both, drop-take, sets-front, sets_behind, copy-turn}
@@ -54,16 +54,6 @@ room-cases k = go (ltb k 8) (ltb k 16)
     go true b = inl refl
     go false true = inr refl
     go false false = inl refl
-
--- by the code's tests
-pub room-low : (k : ℕ) → k < 8 → room_at k ≡ 72
-room-low k h = rw (lt-ltb k 8 h)
-
-pub room-middle : (k : ℕ) → 8 ≤ k → k < 16 → room_at k ≡ 42
-room-middle k g h = rw (le-ltb k 8 g, lt-ltb k 16 h)
-
-pub room-high : (k : ℕ) → 16 ≤ k → room_at k ≡ 72
-room-high k g = rw (le-ltb k 8 (omega arith), le-ltb k 16 g)
 
 -- the packs of so many rows, by number
 sizes-by-number : (rows : ℕ) → sizes_from 0 (length (rows_sizes rows)) ≡ rows_sizes rows

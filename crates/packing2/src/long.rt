@@ -190,6 +190,7 @@ fn lay_rows(rows: usize, s: &[u8; 9000], len: usize, area: &mut [u8])
 }
 
 // "Sequences per channel (n)", two to a row; no rows where "system not 1 to 3".
+#[tactic(auto, unfolding(crate::specs::Long::rows_of, rules::specs::Systems::system))]
 pub(crate) fn rows_of(system: u64) -> usize
     ensures { (result ≡ rows_of system) × (result ≤ 6) }
 {

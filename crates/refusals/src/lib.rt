@@ -1,5 +1,4 @@
-// The numbers of refusals in words: the one table of them (document 01, "Refusals"; document 02, A1, A3, A14). include/vanc.h has the
-// same words for C.
+// The numbers of refusals in words: the one table of them (document 01, "Refusals"; document 02, A1, A3). include/vanc.h has the same words for C.
 #![tactic(auto)]
 
 ghost use Rattle.io.specs.Counts.{IsPrefixLen};
@@ -9,12 +8,7 @@ use frame::LIMIT;
 mod words;
 
 // The last number.
-pub const LAST: u64 = 29;
-
-// Whether some call gives a number: of those to the last, none gives 21 to 28.
-pub fn is_given(number: u64) -> bool {
-    number <= 20 || number == 29
-}
+pub const LAST: u64 = 20;
 
 // What is wrong, for a mastering operator.
 pub fn put_words(out: &mut [u8], at: usize, number: u64) -> usize
@@ -119,11 +113,6 @@ fn put_words_of_reading(out: &mut [u8], at: usize, number: u64) -> usize
             at,
             b"its line is a picture line, or kept free for switching (7, 8, 569, 570)",
         ),
-        29 => text::put_text(
-            out,
-            at,
-            b"it is outside the eight-bit profile: DID 04h, 08h or 0Ch, SDID a multiple of four and not 00h",
-        ),
         _ => put_no_number(out, at),
     }
 }
@@ -210,7 +199,7 @@ pub fn put_line_fault(out: &mut [u8], at: usize, place: u64, system: u64, line: 
     put_line(out, b, system, line)
 }
 
-// Where it is wrong: what the place of a refusal counts, for 7 to 10 the word of the packet (document 02, A2), and for 29 its DID and SDID.
+// Where it is wrong: what the place of a refusal counts, and for 7 to 10 the word of the packet (document 02, A2).
 fn put_place(out: &mut [u8], at: usize, number: u64, place: u64, word: u64, sheet: &[u16]) -> usize
     ensures { IsPrefixLen result out.new }
 {
@@ -228,11 +217,6 @@ fn put_place(out: &mut [u8], at: usize, number: u64, place: u64, word: u64, shee
         19 => {
             let a = text::put_labelled(out, at, b"byte ", place);
             text::put_text(out, a, b": ")
-        }
-        29 => {
-            let a = put_packet(out, at, place, sheet);
-            let b = words::put_ids(out, a, sheet, place);
-            text::put_text(out, b, b": ")
         }
         _ => text::put_text(out, at, b""),
     }

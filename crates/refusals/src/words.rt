@@ -113,34 +113,6 @@ fn put_in_packet(out: &mut [u8], at: usize, packet: &[u16], word: u64) -> usize
     put_content(out, d, packet, i)
 }
 
-fn put_id(out: &mut [u8], at: usize, id: usize) -> usize
-    ensures { IsPrefixLen result out.new }
-{
-    let a = text::put_byte(out, at, (id % 256) as u8);
-    text::put(out, a, b'h')
-}
-
-// What the packet that the words begin with is: its DID, and its SDID or DBN.
-fn put_ids_in_packet(out: &mut [u8], at: usize, packet: &[u16]) -> usize
-    ensures { IsPrefixLen result out.new }
-{
-    let a = text::put_text(out, at, b", DID ");
-    let b = put_id(out, a, low_at(packet, 3));
-    let c = text::put_text(out, b, b", ");
-    let d = put_name_behind_did(out, c, packet);
-    let e = text::put(out, d, b' ');
-    put_id(out, e, low_at(packet, 4))
-}
-
-// The same of packet k of a sheet.
-pub fn put_ids(out: &mut [u8], at: usize, sheet: &[u16], k: u64) -> usize
-    ensures { IsPrefixLen result out.new }
-{
-    let ws = section_c(sheet);
-    let start = start_of(ws, k);
-    put_ids_in_packet(out, at, &ws[start..])
-}
-
 // A word of packet k of a sheet.
 pub fn put(out: &mut [u8], at: usize, sheet: &[u16], k: u64, word: u64) -> usize
     ensures { IsPrefixLen result out.new }

@@ -7,6 +7,8 @@ ghost use Rattle.std.specs.Prelude.{◌+◌, ◌*◌, ◌≤◌, ◌<◌, length
 
 use frame::wide;
 use rules::{Laid, ReadBack};
+use std::fs::File;
+use std::io;
 
 // Two bytes, high byte first.
 fn two(b: &[u8], at: usize) -> usize
@@ -122,34 +124,22 @@ fn mixed_numbers(s: &[u16]) -> u64 {
     h
 }
 
-fn say(text: &[u8]) {
-    io::write_all(libc::STDOUT_FILENO, text);
+fn show_laid(rt: &impl Print, r: Laid, h: u64) -> io::Result<()> {
+    let number = r.number;
+    let place = r.place;
+    let word = r.word;
+    let packs = r.packs;
+    let bytes = r.bytes;
+    print!(rt; "laid {number} {place} {word} {packs} {bytes} {h}")
 }
 
-fn number(n: u64) {
-    say(b" ");
-    io::print_decimal(libc::STDOUT_FILENO, n);
-}
-
-fn show_laid(r: Laid, h: u64) {
-    say(b"laid");
-    number(r.number);
-    number(r.place);
-    number(r.word);
-    number(r.packs);
-    number(r.bytes);
-    number(h);
-}
-
-fn show_read(r: ReadBack, h: u64) {
-    say(b" read");
-    number(r.number);
-    number(r.place);
-    number(r.packing);
-    number(r.packets);
-    number(r.numbers);
-    number(h);
-    say(b"\n");
+fn show_read(rt: &impl Print, r: ReadBack, h: u64) -> io::Result<()> {
+    let number = r.number;
+    let place = r.place;
+    let packing = r.packing;
+    let packets = r.packets;
+    let numbers = r.numbers;
+    println!(rt; " read {number} {place} {packing} {packets} {numbers} {h}")
 }
 
 // A case's packing, system, and what its area is filled with.
@@ -161,14 +151,21 @@ pub struct Case {
 }
 
 // The sheet and the area are as long as the case says.
-fn lay_and_read(case: Case, marks: &[u8], sheet: &[u16], area: &mut [u8], buffer: &mut [u16]) {
+fn lay_and_read(
+    rt: &impl Print,
+    case: Case,
+    marks: &[u8],
+    sheet: &[u16],
+    area: &mut [u8],
+    buffer: &mut [u16],
+) -> io::Result<()> {
     prepare(area, case.fill);
     let laid = vanc::lay(sheet, case.packing, area);
-    show_laid(laid, mixed(area));
+    show_laid(rt, laid, mixed(area))?;
     damage(area, marks);
     noise_numbers(buffer);
     let back = vanc::read(case.system, area, buffer);
-    show_read(back, mixed_numbers(buffer));
+    show_read(rt, back, mixed_numbers(buffer))
 }
 
 // How long the parts of a case are.
@@ -181,37 +178,39 @@ pub struct Sizes {
 
 // Parts of the three buffers, as long as the case says.
 fn in_parts(
+    rt: &impl Print,
     case: Case,
     sizes: Sizes,
     body: &[u8],
     sheet: &mut [u16],
     area: &mut [u8],
     buffer: &mut [u16],
-) {
+) -> io::Result<()> {
     let a = sizes.sheet;
     let b = sizes.area;
     let c = sizes.buffer;
     let words = 2 * (a % 65536);
     if sheet.len() < a {
-        return;
+        return Ok(());
     }
     if area.len() < b {
-        return;
+        return Ok(());
     }
     if buffer.len() < c {
-        return;
+        return Ok(());
     }
     if body.len() < words {
-        return;
+        return Ok(());
     }
     decode(body, sheet);
     lay_and_read(
+        rt,
         case,
         &body[words..],
         &sheet[..a],
         &mut area[..b],
         &mut buffer[..c],
-    );
+    )
 }
 
 fn case_of(head: &[u8]) -> Case
@@ -241,53 +240,56 @@ fn body_size(head: &[u8]) -> usize
     2 * four(head, 0) + 3 * four(head, 16)
 }
 
-fn with_body(head: &[u8], body: &[u8]) {
+fn with_body(rt: &impl Print, head: &[u8], body: &[u8]) -> io::Result<()> {
     if head.len() < 24 {
-        return;
+        return Ok(());
     }
     let mut sheet = [0u16; 16384];
     let mut area = [0u8; 12000];
     let mut buffer = [0u16; 12000];
     in_parts(
+        rt,
         case_of(head),
         sizes_of(head),
         body,
         &mut sheet,
         &mut area,
         &mut buffer,
-    );
+    )
 }
 
 // Does the next case; false where there is none.
-fn next_case(fd: i32, head: &mut [u8], body: &mut [u8]) -> bool {
-    if io::read_full(fd, head) < 24 {
-        return false;
+fn next_case(
+    rt: &impl Print,
+    cases: &mut File,
+    head: &mut [u8],
+    body: &mut [u8],
+) -> io::Result<bool> {
+    if files::read_next(cases, head, 24) < 24 {
+        return Ok(false);
     }
     if head.len() < 24 {
-        return false;
+        return Ok(false);
     }
-    let n = files::read_next(fd, body, body_size(head));
-    with_body(head, &body[..n]);
-    true
+    let n = files::read_next(cases, body, body_size(head));
+    with_body(rt, head, &body[..n])?;
+    Ok(true)
 }
 
-fn one_case(fd: i32) -> bool {
+fn one_case(rt: &impl Print, cases: &mut File) -> io::Result<bool> {
     let mut head = [0u8; 24];
     let mut body = [0u8; 65536];
-    next_case(fd, &mut head, &mut body)
+    next_case(rt, cases, &mut head, &mut body)
 }
 
-fn main() {
-    let fd = os::open_read(b"cases");
-    if fd < 0 {
-        os::fail(b"cases");
-        return;
-    }
+fn main(rt: HostRuntime) -> io::Result<()> {
+    let mut cases = File::open(&rt, "cases")?;
     let mut left: usize = 4096;
     while 0 < left {
-        if !one_case(fd) {
-            return;
+        if !one_case(&rt, &mut cases)? {
+            return Ok(());
         }
         left -= 1;
     }
+    Ok(())
 }

@@ -1,6 +1,5 @@
 // The walker over a DANC string. Document 01, "The walker". Quotations are from document 01.
-// The struct's functions are thin: the work is `walked_on`, on a slice and numbers. They are proved by walks of their MIR, by hand; so is
-// `next`, which holds a walker in a local, and whoever calls `next` needs no walk.
+// The struct's functions are thin: the work is `walked_on`, on a slice and numbers.
 #![tactic(auto)]
 
 ghost use Rattle.std.specs.Prelude.{◌≡◌};

@@ -6,6 +6,8 @@ ghost use Rattle.io.specs.Counts.{IsPrefixLen};
 
 use frame::{StringByte, wide};
 use rules::Step;
+use std::fs::File;
+use std::io;
 use walker::Walked;
 
 fn put_step(out: &mut [u8], s: Step, at: u64) -> usize
@@ -18,46 +20,52 @@ fn put_step(out: &mut [u8], s: Step, at: u64) -> usize
     text::put(out, d, b'\n')
 }
 
-fn print_step(s: Step, at: u64) {
+fn print_step(rt: &impl Print, s: Step, at: u64) -> io::Result<()> {
     let mut line = [0u8; 96];
     let n = put_step(&mut line, s, at);
-    io::write_all(libc::STDOUT_FILENO, &line[..n]);
+    rt.write_all(&line[..n])
 }
 
-fn print_walked(w: Walked) {
+fn print_walked(rt: &impl Print, w: Walked) -> io::Result<()> {
     let at = w.at;
-    print_step(w.answer, at.0);
+    print_step(rt, w.answer, at.0)
 }
 
 // Every answer to the first without a length, the next one, and the last that there is.
-fn print_answers(system: u64, string: &[u8]) {
+fn print_answers(rt: &impl Print, system: u64, string: &[u8]) -> io::Result<()> {
     let mut k: u64 = 0;
     while k < 10000 {
         let s = walker::kth(system, string, k);
-        print_step(s, k);
+        print_step(rt, s, k)?;
         if s.length == 0 {
-            print_step(walker::kth(system, string, k + 1), k + 1);
-            print_step(walker::kth(system, string, 18446744073709551615), 0);
-            return;
+            print_step(rt, walker::kth(system, string, k + 1), k + 1)?;
+            return print_step(rt, walker::kth(system, string, 18446744073709551615), 0);
         }
         k += 1;
     }
+    Ok(())
 }
 
 // A step from every third place, past the end too.
-fn print_places(system: u64, string: &[u8]) {
+fn print_places(rt: &impl Print, system: u64, string: &[u8]) -> io::Result<()> {
     let mut place: u64 = 0;
     while place < 60 {
-        print_walked(walker::next(system, string, StringByte(place)));
+        print_walked(rt, walker::next(system, string, StringByte(place)))?;
         place += 3;
     }
-    print_walked(walker::next(system, string, StringByte(string.len() as u64)));
-    print_walked(walker::next(system, string, StringByte(18446744073709551615)));
+    print_walked(
+        rt,
+        walker::next(system, string, StringByte(string.len() as u64)),
+    )?;
+    print_walked(
+        rt,
+        walker::next(system, string, StringByte(18446744073709551615)),
+    )
 }
 
-fn print_case(system: u64, string: &[u8]) {
-    print_answers(system, string);
-    print_places(system, string);
+fn print_case(rt: &impl Print, system: u64, string: &[u8]) -> io::Result<()> {
+    print_answers(rt, system, string)?;
+    print_places(rt, system, string)
 }
 
 fn length_of(high: u8, low: u8) -> usize {
@@ -65,36 +73,38 @@ fn length_of(high: u8, low: u8) -> usize {
 }
 
 // The next string: its system, its length in two bytes, its bytes.
-fn next_case(fd: i32, head: &mut [u8], body: &mut [u8]) -> bool {
-    if io::read_full(fd, head) < 3 {
-        return false;
+fn next_case(
+    rt: &impl Print,
+    cases: &mut File,
+    head: &mut [u8],
+    body: &mut [u8],
+) -> io::Result<bool> {
+    if files::read_next(cases, head, 3) < 3 {
+        return Ok(false);
     }
     if head.len() < 3 {
-        return false;
+        return Ok(false);
     }
     let system = wide(head[0]) as u64;
-    let n = files::read_next(fd, body, length_of(head[1], head[2]));
-    print_case(system, &body[..n]);
-    true
+    let n = files::read_next(cases, body, length_of(head[1], head[2]));
+    print_case(rt, system, &body[..n])?;
+    Ok(true)
 }
 
-fn one_case(fd: i32) -> bool {
+fn one_case(rt: &impl Print, cases: &mut File) -> io::Result<bool> {
     let mut head = [0u8; 3];
     let mut body = [0u8; 65536];
-    next_case(fd, &mut head, &mut body)
+    next_case(rt, cases, &mut head, &mut body)
 }
 
-fn main() {
-    let fd = os::open_read(b"cases");
-    if fd < 0 {
-        os::fail(b"cases");
-        return;
-    }
+fn main(rt: HostRuntime) -> io::Result<()> {
+    let mut cases = File::open(&rt, "cases")?;
     let mut left: usize = 4096;
     while 0 < left {
-        if !one_case(fd) {
-            return;
+        if !one_case(&rt, &mut cases)? {
+            return Ok(());
         }
         left -= 1;
     }
+    Ok(())
 }

@@ -6,29 +6,29 @@ use Rattle.sheet_file.proofs.Laws.{encoded}
 use Rattle.file_codec.proofs.read_area.Statement.{statement}
 use Rattle.file_codec.proofs.read_area.Tie as tie
 
-read-requires : tie.Need-read-requires
+read-requires : tie.Need-read-r-requires
 read-requires c κs = search rules
 
-encode-first-requires : tie.Need-encode-first-requires
+encode-first-requires : tie.Need-encode_first-requires
 encode-first-requires c κs = search rules
 
-same_length : tie.Need-same-length
+same_length : tie.Need-shape_of-s
 same_length c = search rules
 
-same-length-2 : tie.Need-same-length-2
+same-length-2 : tie.Need-shape_of-file
 same-length-2 c = search rules
 
 returns : tie.Need-returns
 returns c =
-    let start = c.before.before.before.before.before.before.before.before.before.before.before.before in
-    let d = c.before.before.before.before.before.before.before.read in
-    let e = c.before.before.encode-first in
+    let start = c.before.before.before.before.before.before.before.before.before.before.before in
+    let d = c.before.before.before.before.before.before.read-r in
+    let e = c.before.before.encode_first in
     let within = read-within _ _ _ _ _ d.ensures in
-    let s = d.new.1.1.0 in
-    let file = e.new.1.1.0 in
-    let same = d.auto.1.1.0 in
+    let s = d.new.sheet in
+    let file = e.new.file in
+    let same = d.auto.sheet in
     let w = encoded d.result.numbers e.result _ start.args.s.now s file within same start.requires e.ensures in
     ((d.ensures, w.0), w.1)
 
-pub read-area-spec : {M : Type 1} → statement M
-read-area-spec = tie.close (tie.spec read-requires encode-first-requires same_length same-length-2 returns)
+pub read_area_spec : {M : Type 1} → statement M
+read_area_spec = tie.close (tie.spec read-requires encode-first-requires same_length same-length-2 returns)

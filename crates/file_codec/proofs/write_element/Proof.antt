@@ -6,21 +6,21 @@ use borrow.Author.Rules.{rules}
 use Rattle.file_codec.proofs.write_element.Statement.{statement}
 use Rattle.file_codec.proofs.write_element.Tie as tie
 
-decode-requires : tie.Need-decode-requires
+decode-requires : tie.Need-decode-n-requires
 decode-requires c κs = search rules
 
-slice-aggregate-write : tie.Need-slice-aggregate-write
-slice-aggregate-write c = let d = c.before.before.before.decode.ensures in d.0 ∙ sym (ap length d.1)
+slice-aggregate-write : tie.Need-slice_bounds-write-end
+slice-aggregate-write c = let d = c.before.before.decode-n.ensures in d.0 ∙ sym (ap length d.1)
 
 write-requires : tie.Need-write-requires
 write-requires c κs = search rules
 
-same_length : tie.Need-same-length
+same_length : tie.Need-shape_of-element
 same_length c = search rules
 
 returns : tie.Need-returns
-returns c = rw (← c.before.before.before.before.before.before.before.decode.ensures.1) c.before.before.write.ensures
+returns c = rw (← c.before.before.before.before.before.before.decode-n.ensures.1) c.before.before.write.ensures
 
-pub write-element-spec : {M : Type 1} → statement M
-write-element-spec =
+pub write_element_spec : {M : Type 1} → statement M
+write_element_spec =
     tie.close (tie.spec decode-requires slice-aggregate-write write-requires same_length returns)

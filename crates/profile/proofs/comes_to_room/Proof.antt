@@ -11,26 +11,30 @@ use Rattle.profile.proofs.comes_to_room.Statement.{statement}
 use Rattle.profile.proofs.comes_to_room.Tie as tie
 
 -- past the first test
-packing-of : (c : tie.Joined1) → is_packing c.before.before.args.packing ≡ true
-packing-of c = ⊎_elim (λ w. packing-2 _ w.0.taken (eqb-true _ 2 (not-false _ w.1.left))) (λ w. packing-1 _ w.left) c.if1.branch
+packing-of : (c : tie.Joined-else-packing-ne1) → is_packing c.before.before.args.packing ≡ true
+packing-of c =
+    ⊎_elim
+    (λ w. packing-2 _ w.if-packing-ne1.true (eqb-true _ 2 (not-false _ w.if-packing-ne2.false-raw)))
+    (λ w. packing-1 _ w.if-packing-ne1.false)
+    c.else-packing-ne1.branch-raw
 
-returns : tie.Need-returns
-returns c = not-packing _ _ _ c.before.if1.true (eqb-false _ 2 (not-true _ c.if2.true))
+returns : tie.Need-returns-then-packing-ne2
+returns c = not-packing _ _ _ c.before.if-packing-ne1.true (eqb-false _ 2 (not-true _ c.if-packing-ne2.true-raw))
 
-test-requires : tie.Need-test-requires
+test-requires : tie.Need-test-t-requires
 test-requires c κs = search rules
 
-figures-of-requires : tie.Need-figures-of-requires
+figures-of-requires : tie.Need-figures_of-requires
 figures-of-requires c κs = search rules
 
-returns-2 : tie.Need-returns-2
+returns-2 : tie.Need-returns-then-t-eq0
 returns-2 c =
-    let i : tie.Then3 = c.before.before in
-    let t : tie.After-test = i.before.before in
-    by-area _ _ _ _ t.test.ensures (packing-of t.before) i.if3.true _ c.before.figures-of.ensures
+    let i : tie.Then-t-eq0 = c.before.before in
+    let t : tie.After-test-t = i.before.before in
+    by-area _ _ _ _ t.test-t.ensures (packing-of t.before) i.if-t-eq0.true _ c.before.figures_of.ensures
 
-returns-3 : tie.Need-returns-3
-returns-3 c = let t : tie.After-test = c.before.before in not-passed _ _ _ _ t.test.ensures c.if3.false
+returns-3 : tie.Need-returns-else-t-eq0
+returns-3 c = let t : tie.After-test-t = c.before.before in not-passed _ _ _ _ t.test-t.ensures c.if-t-eq0.false
 
-pub comes-to-room-spec : {M : Type 1} → statement M
-comes-to-room-spec = tie.close (tie.spec returns test-requires figures-of-requires returns-2 returns-3)
+pub comes_to_room_spec : {M : Type 1} → statement M
+comes_to_room_spec = tie.close (tie.spec returns test-requires figures-of-requires returns-2 returns-3)

@@ -7,17 +7,17 @@ use Rattle.sheet_file.proofs.Laws.{whole_length, not-whole, whole}
 use Rattle.sheet_file.proofs.decode.Statement.{statement}
 use Rattle.sheet_file.proofs.decode.Tie as tie
 
-is-whole-requires : tie.Need-is-whole-requires
+is-whole-requires : tie.Need-is_whole-requires
 is-whole-requires c κs = search rules
 
 numbers-requires : tie.Need-numbers-requires
-numbers-requires c κs = let h = whole_length _ (sym c.before.before.is_whole.ensures ∙ c.before.if1.true) in omega arith
+numbers-requires c κs = let h = whole_length _ (sym c.before.before.is_whole.ensures ∙ c.before.if-is_whole.true) in omega arith
 
-returns : tie.Need-returns
-returns c = whole _ (sym c.before.before.before.is_whole.ensures ∙ c.before.before.if1.true) _ c.numbers.ensures
+returns : tie.Need-returns-then-is_whole
+returns c = whole _ (sym c.before.before.before.is_whole.ensures ∙ c.before.before.if-is_whole.true) _ c.numbers.ensures
 
-returns-2 : tie.Need-returns-2
-returns-2 c = rw (not-whole _ (sym c.before.is_whole.ensures ∙ c.if1.false)) (refl, refl)
+returns-2 : tie.Need-returns
+returns-2 c = rw (not-whole _ (sym c.before.is_whole.ensures ∙ c.if-is_whole.false)) (refl, refl)
 
-pub decode-spec : {M : Type 1} → statement M
-decode-spec = tie.close (tie.spec is-whole-requires numbers-requires returns returns-2)
+pub decode_spec : {M : Type 1} → statement M
+decode_spec = tie.close (tie.spec is-whole-requires numbers-requires returns returns-2)

@@ -9,26 +9,26 @@ use Rattle.sheet_file.proofs.encode_first.Tie as tie
 encode-requires : tie.Need-encode-requires
 encode-requires c κs = search rules
 
-same_length : tie.Need-same-length
+same_length : tie.Need-shape_of-file-then-s-n
 same_length c = search rules
 
-returns : tie.Need-returns
-returns c = rw (take_all _ _ c.before.before.before.before.if1.true) c.before.before.encode.ensures
+returns : tie.Need-returns-then-s-n
+returns c = rw (take_all _ _ c.before.before.before.if-s-n.true) c.before.before.encode.ensures
 
-slice-aggregate-encode : tie.Need-slice-aggregate-encode
+slice-aggregate-encode : tie.Need-slice_bounds-encode-end
 slice-aggregate-encode c = sym (length-take-le _ _ (search rules))
 
 encode-requires-2 : tie.Need-encode-requires-2
 encode-requires-2 c κs = search rules
 
-same-length-2 : tie.Need-same-length-2
+same-length-2 : tie.Need-shape_of-file
 same-length-2 c = search rules
 
-returns-2 : tie.Need-returns-2
+returns-2 : tie.Need-returns
 returns-2 c = search rules
 
-pub encode-first-spec : {M : Type 1} → statement M
-encode-first-spec =
+pub encode_first_spec : {M : Type 1} → statement M
+encode_first_spec =
     tie.close
     (tie.spec
     encode-requires

@@ -4,11 +4,11 @@ use Rattle.sheet_file.proofs.Laws.{too_long, by-parity}
 use Rattle.sheet_file.proofs.is_whole.Statement.{statement}
 use Rattle.sheet_file.proofs.is_whole.Tie as tie
 
-returns : tie.Need-returns
-returns c = too_long _ c.if1.true
+returns : tie.Need-returns-then-file-gt-LONGEST
+returns c = too_long _ c.if-file-gt-LONGEST.true
 
-returns-2 : tie.Need-returns-2
-returns-2 c = by-parity _ c.if1.false
+returns-2 : tie.Need-returns
+returns-2 c = by-parity _ c.if-file-gt-LONGEST.false
 
-pub is-whole-spec : {M : Type 1} → statement M
-is-whole-spec = tie.close (tie.spec returns returns-2)
+pub is_whole_spec : {M : Type 1} → statement M
+is_whole_spec = tie.close (tie.spec returns returns-2)

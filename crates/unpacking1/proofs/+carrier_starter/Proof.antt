@@ -77,7 +77,7 @@ pub +carrier_starter_spec : {M : Type 1} → statement M
     -- a carrier
     (λ c.
     let p = c.before.before.before.before.requires.1 in
-    order-carrier p.0 (omega arith) c.before.if-us-at.true c.starter.ensures)
+    order-carrier p.0 (omega arith) c.before.if-head.true c.starter.ensures)
     (λ c. search rules)
     (λ c κs. let p = c.before.before.before.before.requires.1 in (omega arith, (behind-first p.0 (omega arith), p.1)))
     -- a starter: the other reader goes on
@@ -93,10 +93,10 @@ pub +carrier_starter_spec : {M : Type 1} → statement M
     let f = c.before in
     let b = f.before.before.before.before in
     let p = b.before.before.before.requires.1 in
-    order-fill p.0 (omega arith) b.if-us-at.false f.before.before.before.if-head-2.false (sym f.all_fill.ensures ∙ c.if-all_fill.true))
+    order-fill p.0 (omega arith) b.if-head.false f.before.before.before.if-head-2.false (sym f.all_fill.ensures ∙ c.if-all_fill.true))
     -- anything else
     (λ c.
     let f = c.before in
     let b = f.before.before.before.before in
     let p = b.before.before.before.requires.1 in
-    order-wrong p.0 (omega arith) b.if-us-at.false f.before.before.before.if-head-2.false (sym f.all_fill.ensures ∙ c.if-all_fill.false))
+    order-wrong p.0 (omega arith) b.if-head.false f.before.before.before.if-head-2.false (sym f.all_fill.ensures ∙ c.if-all_fill.false))

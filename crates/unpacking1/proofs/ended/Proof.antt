@@ -23,7 +23,8 @@ refusal-requires-2 c κs = search rules
 returns-2 : tie.Need-returns-then-fill-at
 returns-2 c =
     let e = c.before.before.before.starter-fill.ensures in
-    rw (ne_eqb _ 1 (λ q. c.before.before.if-fill-eq1.false (e ∙ q)), ne_eqb _ _ (λ q. c.before.if-fill-at.true (e ∙ q))) c.refusal-then-fill-at.ensures
+    rw (ne_eqb _ 1 (λ q. c.before.before.if-fill-eq1.false (e ∙ q)), ne_eqb _ _ (λ q. c.before.if-fill-at.true (e ∙ q)))
+    c.refusal-then-fill-at.ensures
 
 mul-result : tie.Need-overflow_mul-result
 mul-result c = search rules

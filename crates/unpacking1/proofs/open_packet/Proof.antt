@@ -6,7 +6,7 @@ use mathlib.Core.Path.{◌≡◌, sym, ◌∙◌}
 use native.Mathlib.Omega.{arith}
 use lib.ListN.{length}
 use borrow.Author.Rules.{rules}
-use borrow.Author.Tests.{not-true, not-false}
+use borrow.Author.Tests.{not-false}
 use Rattle.unpacking1.specs.Open.{Within, PacksEnd}
 use Rattle.unpacking1.proofs.Packet.{headed-length, stop_is, stop-within, carriers-within, rest-within, stop-rest, packet-not}
 use Rattle.unpacking1.proofs.Packet.{opened-shut, packet-shut, packet-opened}
@@ -49,7 +49,7 @@ module _ (c : tie.After-open_carriers-reached) where
 
   -- there are as many bytes as at the start
   after-long : length c.open_carriers-reached.new.us ≡ length (start found).args.us.now
-  after-long = let a = (start found).args in c.open_carriers-reached.auto.0 ∙ headed-length a.us.now a.at a.to
+  after-long = let a = (start found).args in c.open_carriers-reached.auto.us ∙ headed-length a.us.now a.at a.to
 
 -- ---- the needs
 
@@ -60,16 +60,17 @@ order-wrong-requires : tie.Need-order_wrong-requires
 order-wrong-requires c κs = search rules
 
 returns : tie.Need-returns-then-stop-eq0
-returns c = packet-not (c.before.before.before.packs_end-stop.ensures.shut c.before.before.if-stop-eq0.true) c.order_wrong.ensures
+returns c = packet-not (c.before.before.packs_end-stop.ensures.shut c.before.if-stop-eq0.true) c.order_wrong.ensures
 
 add_wide : tie.Need-overflow_add-at
 add_wide c = search rules
 
 element-copy-out-wide : tie.Need-bounds-us-at
 element-copy-out-wide c =
-    let p = stop_is (packs c) (packs-end c) c.before.if-stop-eq0.false in
-    let i = stop-within (packs c) (packs-end c) c.before.if-stop-eq0.false in
-    let l = (start c).requires.1 in
+    let e : tie.Else-stop-eq0 = c.before in
+    let p = stop_is (packs e) (packs-end e) e.if-stop-eq0.false in
+    let i = stop-within (packs e) (packs-end e) e.if-stop-eq0.false in
+    let l = (start e).requires.1 in
     omega arith
 
 wide-requires : tie.Need-wide-dc-requires
@@ -143,15 +144,16 @@ add-carriers-wrong c = search rules
 
 carriers-wrong-requires : tie.Need-carriers_wrong-requires
 carriers-wrong-requires c κs =
-    let o : tie.After-open_carriers-reached = c.before.before in
+    let o : tie.After-open_carriers-reached = c.before in
     let e = found o in
-    (rest-within (packs e) (packs-end e) e.if-stop-eq0.false (low e) o.open_carriers-reached.ensures (after-long o), after-long o ∙ (start e).requires.1)
+    let l = after-long o in
+    (rest-within (packs e) (packs-end e) e.if-stop-eq0.false (low e) o.open_carriers-reached.ensures l, l ∙ (start e).requires.1)
 
 returns-2 : tie.Need-returns-then-reached-stop
 returns-2 c =
-    let o : tie.After-open_carriers-reached = c.before.before.before in
+    let o : tie.After-open_carriers-reached = c.before.before in
     let e = found o in
-    opened-shut (packs e) (packs-end e) e.if-stop-eq0.false (low e) o.open_carriers-reached.ensures c.before.before.if-reached-stop.true
+    opened-shut (packs e) (packs-end e) e.if-stop-eq0.false (low e) o.open_carriers-reached.ensures c.before.if-reached-stop.true
     c.carriers_wrong.ensures
 
 unused-are-fill-requires : tie.Need-unused_are_fill-requires
@@ -167,21 +169,21 @@ unused-are-fill-requires c κs =
 
 order-wrong-requires-2 : tie.Need-order_wrong-requires-then-not-unused_are_fill
 order-wrong-requires-2 c κs =
-    let o : tie.After-open_carriers-reached = c.before.before.before.before.before.before in
+    let o : tie.After-open_carriers-reached = c.before.before.before.before.before in
     let e = found o in
-    let all = c.before.before.before.before.before.if-reached-stop.false in (
+    let all = c.before.before.before.before.if-reached-stop.false in (
       stop-rest (packs e) (packs-end e) e.if-stop-eq0.false (low e) o.open_carriers-reached.ensures all (after-long o),
       after-long o ∙ (start e).requires.1,
     )
 
 returns-3 : tie.Need-returns-then-not-unused_are_fill
 returns-3 c =
-    let o : tie.After-open_carriers-reached = c.before.before.before.before.before.before.before in
+    let o : tie.After-open_carriers-reached = c.before.before.before.before.before.before in
     let e = found o in
-    let all = c.before.before.before.before.before.before.if-reached-stop.false in
-    let f = c.before.before.before.unused_are_fill in
+    let all = c.before.before.before.before.before.if-reached-stop.false in
+    let f = c.before.before.unused_are_fill in
     packet-shut (packs e) (packs-end e) e.if-stop-eq0.false (low e) o.open_carriers-reached.ensures all (read o).wide-dc.ensures.0
-    (sym f.ensures ∙ not-true f.result c.before.before.if-not-unused_are_fill.true) c.order_wrong-then-not-unused_are_fill.ensures
+    (sym f.ensures ∙ c.before.if-not-unused_are_fill.true) c.order_wrong-then-not-unused_are_fill.ensures
 
 returns-4 : tie.Need-returns
 returns-4 c =

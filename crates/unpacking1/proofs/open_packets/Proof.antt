@@ -2,7 +2,7 @@
 -- the first w bytes, and what is read from place r on is the rest, in order where all is. A turn opens one packet; it ends in 13, 14, the
 -- packet's own fault, or in one packet more.
 -- Assumes nothing.
-use Prim.Native.Nat.{ℕ, ◌-◌, ◌<◌}
+use Prim.Native.Nat.{◌-◌, ◌<◌}
 use mathlib.Core.Path.{◌≡◌, sym, ◌∙◌}
 use mathlib.Core.Bool.{true, ◌&&◌}
 use native.Mathlib.Omega.{arith}
@@ -48,7 +48,7 @@ Opened = tie.After-open_packet-next invariant-loop decreases-loop
 module _ (o : Opened) where
   -- the loop's turn
   abbrev turn : tie.At-loop-last invariant-loop decreases-loop
-  turn = o.before.before.before.before.before
+  turn = o.before.before.before.before
 
   -- a packet starts there
   goes : (ltb turn.loop-last.r turn.before.before.args.total && eqb (get_or turn.loop-last.us turn.loop-last.r 0) 0xE1) ≡ true
@@ -74,11 +74,11 @@ Judged = tie.After-judged-code invariant-loop decreases-loop
 module _ (j : Judged) where
   -- what was known before
   abbrev whole : Whole
-  whole = j.before.before.before.before.before.before.before
+  whole = j.before.before.before.before.before.before
 
   -- there are as many bytes as at the start
   full : length (opened whole).open_packet-next.new.us ≡ 9360
-  full = j.before.before.before.before.before.s-in-loop-last-1.given
+  full = j.before.before.before.before.s-in-loop-last-1.given
 
   after-long : length (opened whole).open_packet-next.new.us ≡ length (turn (opened whole)).loop-last.us
   after-long = let v = (turn (opened whole)).loop-last.invariant in full ∙ sym v.size ∙ sym v.long
@@ -93,14 +93,14 @@ loop-holds c = let p = c.before.requires in opening-none _ _ _ p.0 p.1
 
 starts-requires : tie.Need-starts-requires invariant-loop decreases-loop
 starts-requires c κs =
-    let v = c.before.loop-last.invariant in
+    let v = c.loop-last.invariant in
     let l = v.long in
     let a = v.packs.all in
     (omega arith, l ∙ v.size)
 
 open-packet-requires : tie.Need-open_packet-next-requires invariant-loop decreases-loop
 open-packet-requires c κs =
-    let v = c.before.before.before.before.loop-last.invariant in
+    let v = c.before.before.before.loop-last.invariant in
     let g = sym c.before.before.starts.ensures ∙ c.before.loop-last-test.true in
     (packet-within v, v.long ∙ v.size, packet-left v g, v.low)
 
@@ -111,7 +111,8 @@ refusal-requires c κs = search rules
 returns : tie.Need-returns-then-next-eq1 invariant-loop decreases-loop
 returns c = λ y e.
     let o : Opened = c.before.before in
-    refused-opens (refused-wrong (turn o).loop-last.invariant (goes o) o.open_packet-next.ensures c.before.if-next-eq1.true y) (omega arith) (omega arith)
+    let v = (turn o).loop-last.invariant in
+    refused-opens (refused-wrong v (goes o) o.open_packet-next.ensures c.before.if-next-eq1.true y) (omega arith) (omega arith)
     c.refusal.ensures
 
 refusal-requires-2 : tie.Need-refusal-requires-then-next-eq0 invariant-loop decreases-loop
@@ -153,10 +154,10 @@ add-end-2 c = search rules
 -- so is its last byte
 judged-requires : tie.Need-judged-code-requires invariant-loop decreases-loop
 judged-requires c κs =
-    let h : Whole = c.before.before.before.before.before.before in
+    let h : Whole = c.before.before.before.before.before in
     let o = opened h in
     let v = (turn o).loop-last.invariant in
-    let d = c.before.before.wide.ensures.0 in
+    let d = c.before.wide.ensures.0 in
     let a = size_below v (goes o) o.open_packet-next.ensures (place h) d in
     let b = o.open_packet-next.ensures.within (place h) in
     let l = v.size in
@@ -165,7 +166,7 @@ judged-requires c κs =
 
 refused-requires : tie.Need-refused-requires invariant-loop decreases-loop
 refused-requires c κs =
-    let j : Judged = c.before.before in
+    let j : Judged = c.before in
     let h = whole j in
     let o = opened h in
     (next-within (turn o).loop-last.invariant (goes o) o.open_packet-next.ensures (place h) (after-long j), full j)
@@ -173,14 +174,14 @@ refused-requires c κs =
 -- 15, 16, 20, or 13 before them
 returns-3 : tie.Need-returns-then-code-ne0 invariant-loop decreases-loop
 returns-3 c = λ y e.
-    let j : Judged = c.before.before.before in
+    let j : Judged = c.before.before in
     let h = whole j in
     let o = opened h in
     let v = (turn o).loop-last.invariant in
     let lines = (turn o).before.lines_of-lines.ensures in
     let few = below-limit v (packet-left v (goes o)) in
-    refused-other v (goes o) o.open_packet-next.ensures (place h) j.before.before.before.wide.ensures.0
-    (λ y e. j.judged-code.ensures y e lines few) c.before.before.if-code-ne0.true c.refused.ensures y e
+    refused-other v (goes o) o.open_packet-next.ensures (place h) j.before.before.wide.ensures.0
+    (λ y e. j.judged-code.ensures y e lines few) c.before.if-code-ne0.true c.refused.ensures y e
 
 add-k : tie.Need-overflow_add-k invariant-loop decreases-loop
 add-k c = let b = below-base (turn (opened (whole c.before))).loop-last.invariant in search rules
@@ -201,13 +202,13 @@ loop-again c =
     let v = (turn o).loop-last.invariant in
     let lines = (turn o).before.lines_of-lines.ensures in
     let few = below-limit v (packet-left v (goes o)) in
-    let bytes : Bytes o.open_packet-next.new.us = λ i. (j.before.before.before.before.shared_slice_known-1.given i).fits in
-    opening-more v (goes o) o.open_packet-next.ensures (place h) j.before.before.before.wide.ensures.0
+    let bytes : Bytes o.open_packet-next.new.us = λ i. (j.before.before.before.shared_slice_known-1.given i).fits in
+    opening-more v (goes o) o.open_packet-next.ensures (place h) j.before.before.wide.ensures.0
     (λ y e. j.judged-code.ensures y e lines few) c.if-code-ne0.false bytes (after-long j)
 
 ended-requires : tie.Need-ended-requires invariant-loop decreases-loop
 ended-requires c κs =
-    let v = c.before.before.before.before.loop-last.invariant in
+    let v = c.before.before.loop-last.invariant in
     let a = v.low in
     let b = v.packs.reach in
     let d = v.packs.all in
@@ -218,8 +219,8 @@ ended-requires c κs =
 -- no packet starts
 returns-4 : tie.Need-returns invariant-loop decreases-loop
 returns-4 c =
-    let s = c.before.before.before in
-    opening-ended s.before.before.loop-last.invariant (sym s.starts.ensures ∙ c.before.before.loop-last-test.false) c.ended.ensures
+    let s = c.before.before in
+    opening-ended s.before.loop-last.invariant (sym s.starts.ensures ∙ c.before.loop-last-test.false) c.ended.ensures
 
 pub open_packets_spec : {M : Type 1} → statement M
 open_packets_spec =

@@ -84,7 +84,8 @@ returns-5 c =
 returns-6 : tie.Need-returns-else-stop-total
 returns-6 c =
     let b : tie.After-wide = c.before.before in
-    ends_last (packs b) b.wide.ensures.0 (second b).if-total-at.false c.before.if-total-stop.false (second b).before.if-us-at.false c.if-stop-total.false
+    let e = second b in
+    ends_last (packs b) b.wide.ensures.0 e.if-total-at.false c.before.if-total-stop.false e.before.if-us-at.false c.if-stop-total.false
 
 pub packs_end_spec : {M : Type 1} → statement M
 packs_end_spec =

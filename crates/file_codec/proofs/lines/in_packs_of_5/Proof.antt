@@ -4,62 +4,62 @@ use borrow.Author.Rules.{rules}
 use Rattle.file_codec.proofs.lines.in_packs_of_5.Statement.{statement}
 use Rattle.file_codec.proofs.lines.in_packs_of_5.Tie as tie
 
-abbrev invariant-loop : tie.invariant-loop
+abbrev invariant-loop : tie.invariant-loop-i
 invariant-loop us k pack₀ i₀ pack i = (pack ≤ 1872) × (i ≤ k)
 
-abbrev decreases-loop : tie.decreases-loop
+abbrev decreases-loop : tie.decreases-loop-i
 decreases-loop us k pack₀ i₀ pack i = k - i
 
-next-starter-requires : tie.Need-next-starter-requires invariant-loop decreases-loop
+next-starter-requires : tie.Need-next_starter-pack-requires invariant-loop decreases-loop
 next-starter-requires c κs = search rules
 
-loop-holds : tie.Need-loop-init invariant-loop decreases-loop
+loop-holds : tie.Need-loop-i-init invariant-loop decreases-loop
 loop-holds c = search rules
 
-add-next-starter : tie.Need-overflow-add-next-starter invariant-loop decreases-loop
+add-next-starter : tie.Need-overflow_add-pack invariant-loop decreases-loop
 add-next-starter c = search rules
 
-next-starter-requires-2 : tie.Need-next-starter-requires-2 invariant-loop decreases-loop
+next-starter-requires-2 : tie.Need-next_starter-pack-requires-in-loop-i invariant-loop decreases-loop
 next-starter-requires-2 c κs = search rules
 
-add-i : tie.Need-overflow-add-i invariant-loop decreases-loop
+add-i : tie.Need-overflow_add-i invariant-loop decreases-loop
 add-i c = search rules
 
-loop-less : tie.Need-loop-smaller invariant-loop decreases-loop
+loop-less : tie.Need-loop-i-smaller invariant-loop decreases-loop
 loop-less c = search rules
 
-loop-again : tie.Need-loop-preserved invariant-loop decreases-loop
+loop-again : tie.Need-loop-i-preserved invariant-loop decreases-loop
 loop-again c = search rules
 
-returns : tie.Need-returns invariant-loop decreases-loop
+returns : tie.Need-returns-then-pack-eq-PACKS invariant-loop decreases-loop
 returns c = search rules
 
-mul-line : tie.Need-overflow-mul-line invariant-loop decreases-loop
+mul-line : tie.Need-overflow_mul-pack invariant-loop decreases-loop
 mul-line c = search rules
 
-add-line : tie.Need-overflow-add-line invariant-loop decreases-loop
+add-line : tie.Need-overflow_add-pack-2 invariant-loop decreases-loop
 add-line c = search rules
 
-element-copy-out-line : tie.Need-element-copy-out-line invariant-loop decreases-loop
+element-copy-out-line : tie.Need-bounds-us-pack invariant-loop decreases-loop
 element-copy-out-line c = search rules
 
-mul-line-2 : tie.Need-overflow-mul-line-2 invariant-loop decreases-loop
+mul-line-2 : tie.Need-overflow_mul-pack-2 invariant-loop decreases-loop
 mul-line-2 c = search rules
 
-add-line-2 : tie.Need-overflow-add-line-2 invariant-loop decreases-loop
+add-line-2 : tie.Need-overflow_add-pack-3 invariant-loop decreases-loop
 add-line-2 c = search rules
 
-element-copy-out-line-2 : tie.Need-element-copy-out-line-2 invariant-loop decreases-loop
+element-copy-out-line-2 : tie.Need-bounds-us-pack-2 invariant-loop decreases-loop
 element-copy-out-line-2 c = search rules
 
 line-requires : tie.Need-line-requires invariant-loop decreases-loop
 line-requires c κs = search rules
 
-returns-2 : tie.Need-returns-2 invariant-loop decreases-loop
+returns-2 : tie.Need-returns invariant-loop decreases-loop
 returns-2 c = search rules
 
-pub in-packs-of-5-spec : {M : Type 1} → statement M
-in-packs-of-5-spec =
+pub in_packs_of_5_spec : {M : Type 1} → statement M
+in_packs_of_5_spec =
     tie.close
     (tie.spec
     invariant-loop

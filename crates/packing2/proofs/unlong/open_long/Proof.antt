@@ -12,7 +12,8 @@ use Rattle.packing2.proofs.unlong.open_long.Statement.{statement}
 use Rattle.packing2.proofs.unlong.open_long.Tie as tie
 
 abbrev invariant-loop : tie.invariant-loop-at
-invariant-loop system us₀ rows total whole at₀ len₀ k₀ us at len k = Opening (opened_on (rows_sizes (rows - whole)) total us₀ at₀ len₀) total us at len k
+invariant-loop system us₀ rows total whole at₀ len₀ k₀ us at len k =
+    Opening (opened_on (rows_sizes (rows - whole)) total us₀ at₀ len₀) total us at len k
 
 abbrev decreases-loop : tie.decreases-loop-at
 decreases-loop system us₀ rows total whole at₀ len₀ k₀ us at len k = total - at
@@ -78,13 +79,13 @@ add-len : tie.Need-overflow_add-len invariant-loop decreases-loop
 add-len c = omega (arith, within c.before.before.before.before.before)
 
 last-requires : tie.Need-last-requires invariant-loop decreases-loop
-last-requires c κs = omega (arith, within c.before.before.before.before.before.before.before)
+last-requires c κs = omega (arith, within c.before.before.before.before.before.before)
 
 returns-2 : tie.Need-returns-then-end-eq0 invariant-loop decreases-loop
 returns-2 c =
-    let d = c.before.before.before.before.before.before.before.before in
+    let d = c.before.before.before.before.before.before.before in
     let p = (l d).before in
-    let f = c.before.before.before.pull-room in
+    let f = c.before.before.pull-room in
     frame-answer _ _ _ p.before.before.rows_of-rows.ensures.0 p.pull_rows-whole.ensures.1
     (turn_last (l d).loop-at.invariant d.before.before.loop-at-test.true (long d)
     f.ensures.0 (omega arith) f.ensures.1 (omega arith) c.last.ensures)

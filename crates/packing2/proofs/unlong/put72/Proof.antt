@@ -40,7 +40,8 @@ loop-again : tie.Need-loop-i-preserved invariant-loop decreases-loop
 loop-again c =
     let a : List ℕ = c.before.before.before.args.a in
     let l : length a ≡ 72 = c.before.before.before.well_formed.0.1.0.1 in
-    (search rules, put-turn c.before.before.loop-i.us a c.before.before.before.args.to c.before.before.loop-i.i (omega arith) ∙ c.before.before.loop-i.invariant.1)
+    let t = c.before.before.loop-i in
+    (search rules, put-turn t.us a c.before.before.before.args.to t.i (omega arith) ∙ t.invariant.1)
 
 returns : tie.Need-returns invariant-loop decreases-loop
 returns c =

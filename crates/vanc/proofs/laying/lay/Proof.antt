@@ -26,91 +26,91 @@ use Rattle.vanc.proofs.laying.lay.Statement.{statement}
 use Rattle.vanc.proofs.laying.lay.Tie as tie
 
 -- past the first test
-packing-of : (c : tie.Joined1) → is_packing c.before.before.before.args.packing ≡ true
+packing-of : (c : tie.Joined-else-packing-ne1) → is_packing c.before.before.before.args.packing ≡ true
 packing-of c =
-    ⊎_elim (λ w. packing-2 _ w.0.taken (eqb-true _ 2 (not-false _ w.1.left))) (λ w. packing-1 _ w.left) c.if1.branch
+    ⊎_elim (λ w. packing-2 _ w.if-packing-ne1.true (eqb-true _ 2 (not-false _ w.if-packing-ne2.false-raw))) (λ w. packing-1 _ w.if-packing-ne1.false) c.else-packing-ne1.branch-raw
 
 -- past the sheet's shape and its system
-shape_of : (c : tie.Else4) → shaped c.before.before.before.before.before.before.before.before.args.sheet.now ≡ true
+shape_of : (c : tie.Else-t-eq3) → shaped c.before.before.before.before.before.before.before.before.args.sheet.now ≡ true
 shape_of c =
-    let t : tie.After-test = c.before.before.before.before in
-    is-shaped _ _ t.before.before.before.before.args.area.now (packing-of t.before) _ t.test.ensures c.before.before.if3.false
-    (eqb-false _ 3 c.if4.false)
+    let t : tie.After-test-t = c.before.before.before.before in
+    is-shaped _ _ t.before.before.before.before.args.area.now (packing-of t.before) _ t.test-t.ensures c.before.before.if-t-eq2.false
+    (eqb-false _ 3 c.if-t-eq3.false-raw)
 
 -- and with the figures of its system
-past : (c : tie.After-figures-of)
-    → let t : tie.After-test = c.before.before.before.before.before.before.before in
+past : (c : tie.After-figures_of-figures)
+    → let t : tie.After-test-t = c.before.before.before.before.before.before.before in
     let a = t.before.before.before.before.args in
-    Past a.packing a.sheet.now t.test.result c.figures-of.result
+    Past a.packing a.sheet.now t.test-t.result c.figures_of-figures.result
 past c =
-    let e : tie.Else4 = c.before.before.before in
-    let t : tie.After-test = e.before.before.before.before in
-    past_three _ _ _ _ _ (packing-of t.before) t.test.ensures e.before.before.if3.false (eqb-false _ 3 e.if4.false)
+    let e : tie.Else-t-eq3 = c.before.before.before in
+    let t : tie.After-test-t = e.before.before.before.before in
+    past_three _ _ _ _ _ (packing-of t.before) t.test-t.ensures e.before.before.if-t-eq2.false (eqb-false _ 3 e.if-t-eq3.false-raw)
     c.before.wide.ensures.0
-    c.figures-of.ensures
+    c.figures_of-figures.ensures
 
 refusal-requires : tie.Need-refusal-requires
 refusal-requires c κs = search rules
 
-returns : tie.Need-returns
-returns c = no-packing _ _ _ _ c.before.before.if1.true (eqb-false _ 2 (not-true _ c.before.if2.true)) c.refusal.ensures
+returns : tie.Need-returns-then-packing-ne2
+returns c = no-packing _ _ _ _ c.before.before.if-packing-ne1.true (eqb-false _ 2 (not-true _ c.before.if-packing-ne2.true-raw)) c.refusal.ensures
 
-test-requires : tie.Need-test-requires
+test-requires : tie.Need-test-t-requires
 test-requires c κs = search rules
 
-refusal-requires-2 : tie.Need-refusal-requires-2
+refusal-requires-2 : tie.Need-refusal-requires-then-t-eq2
 refusal-requires-2 c κs = search rules
 
-returns-2 : tie.Need-returns-2
+returns-2 : tie.Need-returns-then-t-eq2
 returns-2 c =
-    let t : tie.After-test = c.before.before.before in
+    let t : tie.After-test-t = c.before.before.before in
     let p = packing-of t.before in
     ⊎_elim
-    (λ w. no-shape _ _ _ p _ t.test.ensures _ w.taken c.refusal2.ensures)
-    (λ w. no-system _ _ _ p _ t.test.ensures _ (eqb-true _ 3 w.2.taken) c.refusal2.ensures)
-    c.before.if3.branch
+    (λ w. no-shape _ _ _ p _ t.test-t.ensures _ w.if-t-eq2.true c.refusal-then-t-eq2.ensures)
+    (λ w. no-system _ _ _ p _ t.test-t.ensures _ (eqb-true _ 3 w.if-t-eq3.true-raw) c.refusal-then-t-eq2.ensures)
+    c.before.then-t-eq2.branch-raw
 
-shared-slice-read-wide : tie.Need-shared-slice-read-wide
+shared-slice-read-wide : tie.Need-bounds-sheet-1
 shared-slice-read-wide c = let l = shaped-long _ (shape_of c.before) in omega arith
 
 wide-requires : tie.Need-wide-requires
 wide-requires c κs = search rules
 
-figures-of-requires : tie.Need-figures-of-requires
+figures-of-requires : tie.Need-figures_of-figures-requires
 figures-of-requires c κs = search rules
 
-refusal-requires-3 : tie.Need-refusal-requires-3
+refusal-requires-3 : tie.Need-refusal-requires-then-area-figures
 refusal-requires-3 c κs = search rules
 
-returns-3 : tie.Need-returns-3
-returns-3 c = no-area _ _ _ _ _ (past c.before.before.before) _ c.before.if5.true c.refusal3.ensures
+returns-3 : tie.Need-returns-then-area-figures
+returns-3 c = no-area _ _ _ _ _ (past c.before.before.before) _ c.before.if-area-figures.true c.refusal-then-area-figures.ensures
 
-refusal-requires-4 : tie.Need-refusal-requires-4
+refusal-requires-4 : tie.Need-refusal-requires-then-t-ne0
 refusal-requires-4 c κs = search rules
 
-returns-4 : tie.Need-returns-4
+returns-4 : tie.Need-returns-then-t-ne0
 returns-4 c =
-    let l : tie.Else5 = c.before.before.before in
-    no-list _ _ _ _ _ (past l.before.before) l.if5.false _ c.before.if6.true c.refusal4.ensures
+    let l : tie.Else-area-figures = c.before.before.before in
+    no-list _ _ _ _ _ (past l.before.before) l.if-area-figures.false _ c.before.if-t-ne0.true c.refusal-then-t-ne0.ensures
 
-lay-list-requires : tie.Need-lay-list-requires
+lay-list-requires : tie.Need-lay_list-requires
 lay-list-requires c κs =
-    let n : tie.Else6 = c.before in
-    let f : tie.After-figures-of = n.before.before.before.before in
-    let t : tie.After-test = f.before.before.before.before.before.before.before in
-    passed _ _ t.test.ensures n.if6.false
+    let n : tie.Else-t-ne0 = c.before in
+    let f : tie.After-figures_of-figures = n.before.before.before.before in
+    let t : tie.After-test-t = f.before.before.before.before.before.before.before in
+    passed _ _ t.test-t.ensures n.if-t-ne0.false
 
-same_length : tie.Need-same-length
+same_length : tie.Need-shape_of-area
 same_length c = search rules
 
-returns-5 : tie.Need-returns-5
+returns-5 : tie.Need-returns
 returns-5 c =
-    let n : tie.Else6 = c.before.before.before.before in
-    let l : tie.Else5 = n.before.before in
-    the-list _ _ _ _ _ (past l.before.before) l.if5.false _ _ n.if6.false c.before.before.lay-list.ensures
+    let n : tie.Else-t-ne0 = c.before.before.before.before in
+    let l : tie.Else-area-figures = n.before.before in
+    the-list _ _ _ _ _ (past l.before.before) l.if-area-figures.false _ _ n.if-t-ne0.false c.before.before.lay_list.ensures
 
-pub lay-spec : {M : Type 1} → statement M
-lay-spec =
+pub lay_spec : {M : Type 1} → statement M
+lay_spec =
     tie.close
     (tie.spec
     refusal-requires

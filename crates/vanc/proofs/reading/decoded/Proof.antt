@@ -9,18 +9,18 @@ refusal-requires : tie.Need-refusal-requires
 refusal-requires c κs = search rules
 
 -- a refusal
-returns : tie.Need-returns
-returns c = λ o w. back-refused (code-refused o c.before.before.whole.given.0 w c.before.if1.true) c.refusal.ensures
+returns : tie.Need-returns-then-code-ge-REFUSED
+returns c = λ o w. back-refused (code-refused o c.before.before.whole-1.given w c.before.if-code-ge-REFUSED.true) c.refusal.ensures
 
 written-requires : tie.Need-written-requires
 written-requires c κs = search rules
 
-same_length : tie.Need-same-length
+same_length : tie.Need-shape_of-sheet
 same_length c = search rules
 
 -- a list
-returns-2 : tie.Need-returns-2
-returns-2 c = λ o w. back-listed o w c.before.before.before.before.if1.false c.before.before.written.ensures
+returns-2 : tie.Need-returns
+returns-2 c = λ o w. back-listed o w c.before.before.before.before.if-code-ge-REFUSED.false c.before.before.written.ensures
 
-pub decoded-spec : {M : Type 1} → statement M
-decoded-spec = tie.close (tie.spec refusal-requires returns written-requires same_length returns-2)
+pub decoded_spec : {M : Type 1} → statement M
+decoded_spec = tie.close (tie.spec refusal-requires returns written-requires same_length returns-2)

@@ -11,7 +11,7 @@ use Rattle.vanc.proofs.reading.written.Statement.{statement}
 use Rattle.vanc.proofs.reading.written.Tie as tie
 
 -- what the writing gives back, of the system as it was given
-module _ (c : tie.After-write-sheet) where
+module _ (c : tie.After-write_sheet-numbers) where
   abbrev start : tie.Start
   start = c.before.before.before.before.before
 
@@ -21,55 +21,55 @@ module _ (c : tie.After-write-sheet) where
   -- no longer than the array that it is the front of
   short : length string ≤ 9360
   short =
-      let l = c.before.before.before.whole.given.0 in
+      let l = c.before.before.before.whole-1.given in
       let m = length-take start.args.end start.args.us.now in
       omega arith
 
-  count : c.write-sheet.result ≡ wrote start.args.system string (length start.args.sheet.now)
+  count : c.write_sheet-numbers.result ≡ wrote start.args.system string (length start.args.sheet.now)
   count =
-      c.write-sheet.ensures.0
+      c.write_sheet-numbers.ensures.0
       ∙ ap (λ (x : ℕ). wrote x string (length start.args.sheet.now)) c.before.before.narrow.ensures
 
-  after : c.write-sheet.new.1.1.1.0 ≡ sheet_after start.args.system string start.args.sheet.now
+  after : c.write_sheet-numbers.new.sheet ≡ sheet_after start.args.system string start.args.sheet.now
   after =
-      c.write-sheet.ensures.1
+      c.write_sheet-numbers.ensures.1
       ∙ ap (λ (x : ℕ). sheet_after x string start.args.sheet.now) c.before.before.narrow.ensures
 
 narrow-requires : tie.Need-narrow-requires
 narrow-requires c κs = search rules
 
-write-sheet-requires : tie.Need-write-sheet-requires
+write-sheet-requires : tie.Need-write_sheet-numbers-requires
 write-sheet-requires c κs = search rules
 
 refusal-requires : tie.Need-refusal-requires
 refusal-requires c κs = search rules
 
-same_length : tie.Need-same-length
+same_length : tie.Need-shape_of-sheet-then-numbers-eq0
 same_length c = search rules
 
-returns : tie.Need-returns
+returns : tie.Need-returns-then-numbers-eq0
 returns c =
-    let b : tie.After-write-sheet = c.before.before.before.before in
+    let b : tie.After-write_sheet-numbers = c.before.before.before.before in
     let a = (start b).args in
-    let n = b.write-sheet.result in
+    let n = b.write_sheet-numbers.result in
     λ ps e q.
-    no_room a.system a.packing ps (string b) a.sheet.now b.write-sheet.new.1.1.1.0 n e (short b) (count b) (after b)
-    c.before.if1.true c.refusal.result c.refusal.ensures
+    no_room a.system a.packing ps (string b) a.sheet.now b.write_sheet-numbers.new.sheet n e (short b) (count b) (after b)
+    c.before.if-numbers-eq0.true c.refusal.result c.refusal.ensures
 
-same-length-2 : tie.Need-same-length-2
+same-length-2 : tie.Need-shape_of-sheet
 same-length-2 c = search rules
 
-returns-2 : tie.Need-returns-2
+returns-2 : tie.Need-returns
 returns-2 c =
-    let b : tie.After-write-sheet = c.before.before.before in
+    let b : tie.After-write_sheet-numbers = c.before.before.before in
     let a = (start b).args in
-    let n = b.write-sheet.result in
+    let n = b.write_sheet-numbers.result in
     λ ps e q.
-    all_room a.system a.packing ps (string b) a.sheet.now b.write-sheet.new.1.1.1.0 n e (short b) (count b) (after b)
-    c.if1.false a.packets q
+    all_room a.system a.packing ps (string b) a.sheet.now b.write_sheet-numbers.new.sheet n e (short b) (count b) (after b)
+    c.if-numbers-eq0.false a.packets q
 
-pub written-spec : {M : Type 1} → statement M
-written-spec =
+pub written_spec : {M : Type 1} → statement M
+written_spec =
     tie.close
     (tie.spec
     narrow-requires
