@@ -78,7 +78,8 @@ module _ (sys : ℕ) (o : Outcome) (room : ℕ) (kn : known sys ≡ true) where
 
         go : (q : Outcome) → o ≡ q → and_then q (packet_tests sys room) ≡ refused n i → 1 ≤ n
         go (listed qs) q z =
-            at_from 1 20 (location_allowed (system sys)) 0 (locations qs) _ n i (last qs (leb (length qs) limit) (has_room sys room qs)) (omega arith) z
+            at_from 1 20 (location_allowed (system sys)) 0 (locations qs) _ n i (last qs (leb (length qs) limit) (has_room sys room qs))
+            (omega arith) z
         go (refused m j) q z = number n i (q ∙ z)
 
     -- what is accepted only: what judging lists, items give

@@ -132,8 +132,8 @@ structures-listed c sys fi n at s ps e =
       dc = b.dc;
     })
   where
-    go : (o : Outcome) → structures c sys fi n (at + size_in s) (drop (size_in s) s) ≡ o → also (packet_in c sys fi s) o ≡ listed ps → Structure c sys s
-        → More c sys fi n at s ps
+    go : (o : Outcome) → structures c sys fi n (at + size_in s) (drop (size_in s) s) ≡ o → also (packet_in c sys fi s) o ≡ listed ps
+        → Structure c sys s → More c sys fi n at s ps
     go (listed qs) q e t = record { structure = t; rest = qs; front = (let z : packet_in c sys fi s ∷ qs ≡ ps = cc in sym z); later = q }
     go (refused m i) q e t = never (cc)
 

@@ -252,7 +252,8 @@ module _ (c : Coding) (at : ℕ) (s : List ℕ) (pos : 0 < at) (o : Outcome) whe
       from-array : array_then c at s o ≡ from_array
       unfolding array_then
       from-array =
-          right at s 4 2 (is_count c (two_in s 4)) from_array l6 (rw (le-leb (others c) (two_in s 4) least) (le-leb (two_in s 4) (others c + 255) most))
+          right at s 4 2 (is_count c (two_in s 4)) from_array l6
+          (rw (le-leb (others c) (two_in s 4) least) (le-leb (two_in s 4) (others c + 255) most))
 
       pub array-missing : length s < 10 → array_then c at s o ≡ fault_or 0 (at + length s) o
       array-missing l = from-array ∙ missing 0 at s 10 _ o (at + length s) refl (λ z. omega arith) l
@@ -347,7 +348,8 @@ add-also : (k numbers : ℕ) (p : Packet) (o : Outcome) → add_to k numbers (al
 add-also k numbers p (refused n i) = refl
 add-also k numbers p (listed ps) =
     let a : k + suc (length ps) ≡ k + 1 + length ps = omega arith in
-    let b : numbers + (2 * suc (length ps) + (bytes_of p + string_byte_count ps)) ≡ numbers + (2 + bytes_of p) + (2 * length ps + string_byte_count ps) =
+    let b : numbers + (2 * suc (length ps) + (bytes_of p + string_byte_count ps))
+    ≡ numbers + (2 + bytes_of p) + (2 * length ps + string_byte_count ps) =
     omega arith in
     λ i. counted (a i) (b i)
 

@@ -119,8 +119,8 @@ module _ (c : Coding) (sys : ℕ) (fi : Bool) (n : ℕ) (s out : List ℕ) where
   locating-all k at was h =
       let none = left-none c sys fi n s k at was.left h in
       let l = was.long in
-      all-written out (locations (rest_of c sys fi n s k at)) (locations (packets_of_structures c sys fi n s)) (2 * k) (omega arith) (ap locations none)
-      was.written
+      all-written out (locations (rest_of c sys fi n s k at)) (locations (packets_of_structures c sys fi n s)) (2 * k) (omega arith)
+      (ap locations none) was.written
 
   -- a turn: line and flags
   pub locating-more : (k at first line flags count : ℕ) → Locating c sys fi n s out k at → k < n → first ≡ fi_read sys fi → line ≡ two_in s at
@@ -491,7 +491,8 @@ module _ (c : Coding) (sys : ℕ) (fi : Bool) (e sheet : List ℕ) (j : ElementR
           → Answers sys sheet (and_then (judged_as c sys fi e) (last_tests sys (length sheet))) r after
           → Answers sys sheet (and_then (judged_as c sys fi e) (packet_tests sys (length sheet))) r after
       all-allowed n r after w =
-          let p : and_then (judged_as c sys fi e) (last_tests sys (length sheet)) ≡ and_then (judged_as c sys fi e) (packet_tests sys (length sheet)) =
+          let p : and_then (judged_as c sys fi e) (last_tests sys (length sheet))
+          ≡ and_then (judged_as c sys fi e) (packet_tests sys (length sheet)) =
           ap (λ (o : Outcome). and_then o (last_tests sys (length sheet))) found-is
           ∙ sym (ap (λ (o : Outcome). and_then o (packet_tests sys (length sheet))) found-is ∙ lines_are ∙ rw (eq-eqb k j.packets n)) in
           subst (λ (o : Outcome). Answers sys sheet o r after) p w

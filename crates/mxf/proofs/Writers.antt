@@ -594,7 +594,8 @@ module _ (w : Writer) (fi : Bool) (s buffer : List ℕ) where
       go : (o : Outcome) → w.tests s ≡ o
           → (r ≡ written_with (w.word (words_in s) (with_room_for (w.make (system_in s)) (length buffer) (and_then o (export (system_in s) fi))))
           (written_by (w.make (system_in s)) (with_room_for (w.make (system_in s)) (length buffer) (and_then o (export (system_in s) fi)))))
-          × (buffer ≡ laid_by (w.make (system_in s)) buffer (with_room_for (w.make (system_in s)) (length buffer) (and_then o (export (system_in s) fi))))
+          × (buffer
+          ≡ laid_by (w.make (system_in s)) buffer (with_room_for (w.make (system_in s)) (length buffer) (and_then o (export (system_in s) fi))))
       go (listed ps) q = absurd (n (t.passed ps q))
       go (refused k i) q =
           let a = t.named k i q in

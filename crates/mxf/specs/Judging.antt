@@ -3,7 +3,8 @@
 --
 -- In order: numbers in bytes; ten-bit samples; a field; a structure (table 7); the structures; key, length and N (tables 5 and 6).
 -- Assumes nothing.
-use Rattle.std.specs.Prelude.{ℕ, zero, suc, ◌+◌, ◌*◌, ◌/◌, ◌%◌, Bool, true, cond, not, ◌&&◌, ◌||◌, List, [], ◌∷◌, ◌++◌, eqb, ltb, leb, length, get_or, take, drop}
+use Rattle.std.specs.Prelude.{ℕ, zero, suc, ◌+◌, ◌*◌, ◌/◌, ◌%◌, Bool, true, cond, not, ◌&&◌, ◌||◌}
+use Rattle.std.specs.Prelude.{List, [], ◌∷◌, ◌++◌, eqb, ltb, leb, length, get_or, take, drop}
 use Rattle.rules.specs.Systems.{System, system, stands}
 use Rattle.rules.specs.Packet.{sound, Packet}
 use Rattle.rules.specs.Numbers.{Outcome, listed, refused, also}

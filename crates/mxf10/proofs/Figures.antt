@@ -10,5 +10,6 @@ use Rattle.mxf10.specs.Element.{structure, value, element}
 use Rattle.mxf10.specs.Figures.{Figures}
 
 pub figures-agree : Figures
-unfolding system stands parity word check coded check_of key progressive wrapping structure value element fi_read front_then array_then head_then judged_as
+unfolding system stands parity word check coded check_of key progressive wrapping structure value element fi_read
+    front_then array_then head_then judged_as
 figures-agree = record { luma = refl; back = refl }

@@ -111,7 +111,9 @@ returns-4 c =
       λ o.
           ⊎_elim
           (λ w. let l = w.if-count-samples.true in array-small eight _ _ pos o f.if-s-lt6.false (least b) (most b) g.if-s-lt10.false (omega arith))
-          (λ w. let l = w.if-s-count.true-raw in array-past eight _ _ pos o f.if-s-lt6.false (least b) (most b) g.if-s-lt10.false (omega (arith, ltb-true)))
+          (λ w.
+          let l = w.if-s-count.true-raw in
+          array-past eight _ _ pos o f.if-s-lt6.false (least b) (most b) g.if-s-lt10.false (omega (arith, ltb-true)))
           c.then-count-samples.branch-raw,
       λ z. absurd (omega arith),
     )

@@ -124,7 +124,9 @@ returns-7 c k p q e o =
     let r = m.before.if-s-wrapping.false in
     let g = w.before.before.if-s-lt3.false in
     ⊎_elim
-    (λ x. colour k _ _ _ _ pos e o l (some d) (within d) g _ w.wrapping.ensures r m.if-s-lt4.false (eqb-true _ _ (not-false _ x.if-s-colour.false-raw) ∙ q))
+    (λ x.
+    colour k _ _ _ _ pos e o l (some d) (within d) g _ w.wrapping.ensures r m.if-s-lt4.false
+    (eqb-true _ _ (not-false _ x.if-s-colour.false-raw) ∙ q))
     (λ x. luma k _ _ _ _ pos e o l (some d) (within d) g _ w.wrapping.ensures r m.if-s-lt4.false (x.if-s-luma.false ∙ p))
     c.else-s-luma.branch-raw
 

@@ -10,7 +10,10 @@ front-fault-requires : tie.Need-front_fault-front-requires
 front-fault-requires c κs = search rules
 
 returns : tie.Need-returns-then-front-ne0
-returns c = (λ e o. c.before.front_fault-front.ensures eight refl refl e _ ∙ fault-stays _ _ o c.if-front-ne0.true, λ z. absurd (c.if-front-ne0.true z))
+returns c = (
+  λ e o. c.before.front_fault-front.ensures eight refl refl e _ ∙ fault-stays _ _ o c.if-front-ne0.true,
+  λ z. absurd (c.if-front-ne0.true z),
+)
 
 array-fault-requires : tie.Need-array_fault-requires
 array-fault-requires c κs = search rules

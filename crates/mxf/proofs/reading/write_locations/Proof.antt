@@ -89,7 +89,10 @@ mul-out-4 : tie.Need-offset_bounds-out-k-in-loop-k invariant-loop decreases-loop
 mul-out-4 c = let d = c.before.before.before.before in let l = (d.loop-k.invariant.1 (start d).requires.0).long in omega arith
 
 slice-write-out-2 : tie.Need-bounds-out-k-in-loop-k invariant-loop decreases-loop
-slice-write-out-2 c = let d = c.before.before.before.before in let l = (d.loop-k.invariant.1 (start d).requires.0).long in simp length-set (omega arith)
+slice-write-out-2 c =
+    let d = c.before.before.before.before in
+    let l = (d.loop-k.invariant.1 (start d).requires.0).long in
+    simp length-set (omega arith)
 
 add-four : tie.Need-overflow_add-at-in-loop-k invariant-loop decreases-loop
 add-four c = let h = (step c.before.before.before).inside in omega arith

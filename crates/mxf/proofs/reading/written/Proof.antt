@@ -59,7 +59,8 @@ returns-2 c =
     let b = d.before.before.before.before in
     let a = b.args in
     no_room eight a.system a.fi a.e.now a.sheet.now a.j b.requires.1 b.requires.2 d.if-j.false
-    (⊎_elim (λ w. inl w.if-n-packets-gt65535.true) (λ w. inr (ltb-true (length a.sheet.now) a.j.numbers w.if-sheet-n.true-raw)) c.before.then-n-packets-gt65535.branch-raw)
+    (⊎_elim (λ w. inl w.if-n-packets-gt65535.true) (λ w. inr (ltb-true (length a.sheet.now) a.j.numbers w.if-sheet-n.true-raw))
+    c.before.then-n-packets-gt65535.branch-raw)
     c.refusal-then-n-packets-gt65535.result c.refusal-then-n-packets-gt65535.ensures
 
 sub-write-sections : tie.Need-slice_bounds-write_sections-count

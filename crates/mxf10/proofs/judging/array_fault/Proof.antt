@@ -122,7 +122,9 @@ returns-4 c =
       λ o.
           ⊎_elim
           (λ w. let l = w.if-count-array_bytes.true in array-small ten _ _ pos o f.if-s-lt6.false (least b) (most b) g.if-s-lt10.false (omega arith))
-          (λ w. let l = w.if-s-count.true-raw in array-past ten _ _ pos o f.if-s-lt6.false (least b) (most b) g.if-s-lt10.false (omega (arith, ltb-true)))
+          (λ w.
+          let l = w.if-s-count.true-raw in
+          array-past ten _ _ pos o f.if-s-lt6.false (least b) (most b) g.if-s-lt10.false (omega (arith, ltb-true)))
           c.then-count-array_bytes.branch-raw,
       λ z. absurd (omega arith),
     )

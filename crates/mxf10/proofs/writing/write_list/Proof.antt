@@ -92,8 +92,8 @@ returns-3 c =
     let e = l.before in
     let m = e.before.before in
     let v = m.before in
-    element-written found-tens _ _ _ _ v.before.section_b-ls.ensures v.section_c-ws.ensures _ m.measure-m.ensures e.if-m-ne0.false _ l.if-element-n.false
-    c.before.before.put_element.ensures
+    element-written found-tens _ _ _ _ v.before.section_b-ls.ensures v.section_c-ws.ensures _ m.measure-m.ensures e.if-m-ne0.false _
+    l.if-element-n.false c.before.before.put_element.ensures
 
 pub write_list_spec : {M : Type 1} → statement M
 write_list_spec =
