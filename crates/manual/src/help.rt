@@ -45,7 +45,7 @@ pub fn say_overview(rt: &HostRuntime) -> i32 {
 pub fn version(rt: &HostRuntime) -> i32 {
     print(
         rt,
-        b"vanc 0.6.0, proved with rattle-kit-5b-plain logic 097e4c862dff5811\n",
+        b"vanc 0.6.0, proved with rattle-kit-13f logic dac8208d650f15bf\n",
     )
 }
 
