@@ -19,7 +19,8 @@ use Rattle.rules.specs.Sheet.{limit, system_in, count_in, words_in}
 use Rattle.rules.specs.Numbers.{Outcome, listed, refused, also, and_then}
 use Rattle.rules.specs.Laying.{dc_in, word_at, from_packet, shaped, list_tests_by}
 use Rattle.rules.specs.Lister.{tested_in}
-use Rattle.rules.specs.Found.{is_ten, are_ten, ten_before, found_fault, found_of_words, found_row, packets_found, found_word_at, found_tests, SheetFound}
+use Rattle.rules.specs.Found.{is_ten, are_ten, ten_before, found_fault, found_of_words, found_row, packets_found, found_word_at}
+use Rattle.rules.specs.Found.{found_tests, SheetFound}
 use Rattle.rules.specs.declared.Tested.{Tested}
 use Rattle.rules.proofs.Basics.{never}
 use Rattle.rules.proofs.Sheets.{system-back}

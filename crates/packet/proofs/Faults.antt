@@ -121,7 +121,8 @@ module _ (s : List ℕ) where
               go true = refl
               go false = refl
 
-          pub sound-check : (d cs : ℕ) → d ≡ dc_in s → cs ≡ check (take (dc_in s + 3) (drop 3 s)) → eqb (get_or s (d + 6) 0) cs ≡ eqb (words_fault s) 0
+          pub sound-check : (d cs : ℕ) → d ≡ dc_in s → cs ≡ check (take (dc_in s + 3) (drop 3 s)) → eqb (get_or s (d + 6) 0) cs
+              ≡ eqb (words_fault s) 0
           sound-check d cs e f = ap₂ (λ (n w : ℕ). eqb (get_or s (n + 6) 0) w) e f ∙ sound-is
 
           pub fault-check : eqb (words_fault s) 0 ≡ false → 10 ≡ words_fault s
@@ -163,7 +164,8 @@ module _ (s : List ℕ) (w : ℕ) (e : w ≡ 3 + words_before (drop 3 (take (dc_
         ∙ rw (take-add 3 (dc_in s) (drop 3 s), drop-drop 3 3 s, words_append (take 3 (drop 3 s)) (take (dc_in s) (drop 6 s)), head)
 
     pub wrong-user : dc_in s + 7 ≤ length s → w < dc_in s + 6 → are_words (take (dc_in s) (drop 6 s)) ≡ false
-    wrong-user m h = sym user-are ∙ each-past is_word are_words words_before each_word (3 + dc_in s) own (let k = own-long in omega arith) (omega arith)
+    wrong-user m h = sym user-are
+        ∙ each-past is_word are_words words_before each_word (3 + dc_in s) own (let k = own-long in omega arith) (omega arith)
 
     pub right-user : dc_in s + 6 ≤ w → are_words (take (dc_in s) (drop 6 s)) ≡ true
     right-user h = sym user-are ∙ each-before is_word are_words words_before each_word (3 + dc_in s) own (omega arith)

@@ -170,7 +170,8 @@ module _ (s us : List ℕ) (rest at : ℕ) where
 
 -- the starter, and carriers behind it
 starter-laid : (us s : List ℕ) (to dc h0 h1 : ℕ)
-    → sets (sets us to (0xE1 ∷ 0xFF ∷ h0 ∷ h1 ∷ 0xFF ∷ [])) (to + 5) (flat (carriers (carriers_for dc) s)) ≡ sets us to (flat (packet_fives dc h0 h1 s))
+    → sets (sets us to (0xE1 ∷ 0xFF ∷ h0 ∷ h1 ∷ 0xFF ∷ [])) (to + 5) (flat (carriers (carriers_for dc) s))
+    ≡ sets us to (flat (packet_fives dc h0 h1 s))
 unfolding packet_fives
 starter-laid us s to dc h0 h1 = sym (sets-append (0xE1 ∷ 0xFF ∷ h0 ∷ h1 ∷ 0xFF ∷ []) (flat (carriers (carriers_for dc) s)) us to)
 

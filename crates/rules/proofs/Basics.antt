@@ -111,7 +111,8 @@ drop-bytes (suc n) [] h i = omega arith
 drop-bytes (suc n) (x ∷ s) h i = drop-bytes n s (λ j. h (suc j)) i
 
 -- numbers below a bound, joined
-pub append-below : (bound : ℕ) (s t : List ℕ) → ((i : ℕ) → get_or s i 0 < bound) → ((i : ℕ) → get_or t i 0 < bound) → (i : ℕ) → get_or (s ++ t) i 0 < bound
+pub append-below : (bound : ℕ) (s t : List ℕ) → ((i : ℕ) → get_or s i 0 < bound) → ((i : ℕ) → get_or t i 0 < bound) → (i : ℕ)
+    → get_or (s ++ t) i 0 < bound
 append-below bound [] t h k i = k i
 append-below bound (x ∷ s) t h k zero = h 0
 append-below bound (x ∷ s) t h k (suc i) = append-below bound s t (λ j. h (suc j)) k i

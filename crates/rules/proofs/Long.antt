@@ -219,7 +219,8 @@ opened-room m (n ∷ ns) [] t d (one hn r) l e = absurd (omega arith)
 opened-room m (n ∷ ns) (a ∷ []) t d (one hn r) l e = absurd (omega arith)
 opened-room m (n ∷ ns) (a ∷ b ∷ []) t d (one hn r) l e = absurd (omega arith)
 opened-room m (n ∷ ns) (a ∷ b ∷ c ∷ v) t d (one hn r) l e =
-    let w = open_pack-cases (eqb a 0xE3) (eqb (b % 2) 1) (all_is 0xFF (drop (n - 3) v)) (take (n - 3) v) (n - 3) (open_long ns (drop (n - 3) v)) t d e in
+    let w = open_pack-cases (eqb a 0xE3) (eqb (b % 2) 1) (all_is 0xFF (drop (n - 3) v)) (take (n - 3) v) (n - 3)
+    (open_long ns (drop (n - 3) v)) t d e in
     let k : length (take (n - 3) v) ≡ n - 3 = length-take-le (n - 3) v (omega arith) in
     ⊎_elim
     (λ z.
@@ -327,7 +328,8 @@ long-laid (n ∷ ns) (a ∷ b ∷ c ∷ v) (one hn r) l by t d e [] tail q f h =
 long-laid (n ∷ ns) (a ∷ b ∷ c ∷ v) (one hn r) l by t d e (x ∷ s) tail q f h =
     let len : length v ≡ n - 3 + sum ns = omega arith in
     let dl : length (drop (n - 3) v) ≡ sum ns = length-drop (n - 3) v ∙ (omega arith) in
-    let w = open_pack-cases (eqb a 0xE3) (eqb (b % 2) 1) (all_is 0xFF (drop (n - 3) v)) (take (n - 3) v) (n - 3) (open_long ns (drop (n - 3) v)) t d e in
+    let w = open_pack-cases (eqb a 0xE3) (eqb (b % 2) 1) (all_is 0xFF (drop (n - 3) v)) (take (n - 3) v) (n - 3)
+    (open_long ns (drop (n - 3) v)) t d e in
     laid-step n ns a b c v x s tail hn len (by 1) (by 2) (eqb-true a 0xE3 w.0) f t d r q h
     (λ u o j. long-laid ns (drop (n - 3) v) r dl (drop-bytes (n - 3) v (λ i. by (suc (suc (suc i))))) u d o (drop (n - 3) (x ∷ s)) tail j f h)
     w.1

@@ -88,7 +88,8 @@ located-back [] = refl
 located-back (p ∷ ps) = ap (λ (t : List Packet). p ∷ t) (located-back ps)
 
 -- 6 and 20 pass where every packet is placed
-pub locations-stand : (y : System) (i : ℕ) (ps : List Packet) (o : Outcome) → All (Placed y) ps → unless_at 6 (location_stands y) i (locations ps) o ≡ o
+pub locations-stand : (y : System) (i : ℕ) (ps : List Packet) (o : Outcome) → All (Placed y) ps
+    → unless_at 6 (location_stands y) i (locations ps) o ≡ o
 locations-stand y i [] o g = refl
 locations-stand y i (p ∷ ps) o (one g gs) =
     rw (allowed-stands y p.line g.line, lt-ltb p.flags 4 g.flags) (locations-stand y (suc i) ps o gs)
@@ -335,7 +336,8 @@ module _ (packets : List ℕ → Outcome) (Fine : System → Packet → Type 0) 
             few = omega arith;
           })
 
-      words_of : (o : Outcome) → packets (words_in s) ≡ o → count_in s ≤ limit → in_range (and_then o paired) ≡ listed ps → SheetBy Fine (system_in s) ps s
+      words_of : (o : Outcome) → packets (words_in s) ≡ o → count_in s ≤ limit → in_range (and_then o paired) ≡ listed ps
+          → SheetBy Fine (system_in s) ps s
       words_of o q few d = go o q (passed_on 6 (location_stands y) 0 ls _ ps d) d
         where
           go : (o : Outcome) → packets (words_in s) ≡ o → on_lines (and_then o paired) ≡ listed ps → in_range (and_then o paired) ≡ listed ps

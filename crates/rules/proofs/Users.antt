@@ -22,7 +22,8 @@ use Rattle.rules.specs.Packing1.{flat, fives, packs, packs_of, packs_in1}
 use Rattle.rules.specs.Packing2.{fill, filled, Spare, Spares, long_packs, Opened, opened, shut, open_long, string_room, long_count, packs_in2}
 use Rattle.rules.specs.Packings.{is_packing, user_bytes, laid_bytes, capacity, needed, fits, packs_laid, packs_in, most_packs}
 use Rattle.rules.specs.Numbers.{listed, refused, unless, packets_in}
-use Rattle.rules.specs.Reading.{string_ends, string_row, packs_end, pack_row, in_order, first_byte, packets_of_opened, packets_of_user_bytes, packing_found}
+use Rattle.rules.specs.Reading.{string_ends, string_row, packs_end, pack_row, in_order, first_byte, packets_of_opened}
+use Rattle.rules.specs.Reading.{packets_of_user_bytes, packing_found}
 use Rattle.rules.specs.Demands.{Gives, named}
 use Rattle.rules.proofs.Basics.{never, both, all_is-fill, fill-all_is, written_back}
 use Rattle.rules.proofs.Rows.{row-refused}
@@ -68,7 +69,8 @@ module _ (y : System) (sizes ub : List ℕ) (n i : ℕ) where
 
   refused-cases : (a b c d f : Bool)
       → cond a (unless 13 b (listed []))
-      (cond c (unless 13 d (packets_in (pack_row y) limit 0 (fives ub))) (cond f (packets_of_opened y (open_long sizes ub)) (refused 13 0))) ≡ refused n i
+      (cond c (unless 13 d (packets_in (pack_row y) limit 0 (fives ub)))
+      (cond f (packets_of_opened y (open_long sizes ub)) (refused 13 0))) ≡ refused n i
       → Refusal
   refused-cases true true c d f e = never (cc)
   refused-cases true false c d f e = inl (cc)
@@ -230,7 +232,8 @@ module _ (y : System) (hm : y.last < 2047) (sizes : List ℕ) (m : ℕ) (roomy :
 
     from-cases : (a b c d f : Bool) → all_is 0xFF ub ≡ b
         → cond a (unless 13 b (listed []))
-        (cond c (unless 13 d (packets_in (pack_row y) limit 0 (fives ub))) (cond f (packets_of_opened y (open_long sizes ub)) (refused 13 0))) ≡ listed ps
+        (cond c (unless 13 d (packets_in (pack_row y) limit 0 (fives ub)))
+        (cond f (packets_of_opened y (open_long sizes ub)) (refused 13 0))) ≡ listed ps
         → (k : ℕ) × Gives y sizes k ps ub
     from-cases true true c d f q e =
         let z : [] ≡ ps = cc in
@@ -245,7 +248,8 @@ module _ (y : System) (hm : y.last < 2047) (sizes : List ℕ) (m : ℕ) (roomy :
     pub users-laid : packets_of_user_bytes y sizes ub ≡ listed ps → (k : ℕ) × Gives y sizes k ps ub
     unfolding packets_of_user_bytes
     users-laid e =
-        from-cases (eqb (first_byte ub) 0xFF) (all_is 0xFF ub) (eqb (first_byte ub) 0xE1) (in_order false (fives ub)) (eqb (first_byte ub) 0xE3) refl e
+        from-cases (eqb (first_byte ub) 0xFF) (all_is 0xFF ub) (eqb (first_byte ub) 0xE1) (in_order false (fives ub))
+        (eqb (first_byte ub) 0xE3) refl e
 
   -- from one list only, and in one packing only unless the list is empty
   pub users-unique : (j k : ℕ) (ps qs : List Packet) (ub : List ℕ) → Gives y sizes j ps ub → Gives y sizes k qs ub

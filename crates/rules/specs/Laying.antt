@@ -3,7 +3,8 @@
 -- In order: the words of a packet (7 to 10); the word that is named; the sheet (2, 5, 6, 20, 11); the lister's tests; laying's (1, 4, 12);
 -- its answer.
 -- Assumes nothing.
-use Rattle.std.specs.Prelude.{ℕ, zero, suc, ◌+◌, ◌*◌, ◌%◌, Bool, true, false, cond, not, ◌&&◌, ◌||◌, List, [], ◌∷◌, map, eqb, ltb, leb, length, get_or, take, drop}
+use Rattle.std.specs.Prelude.{ℕ, zero, suc, ◌+◌, ◌*◌, ◌%◌, Bool, true, false, cond, not, ◌&&◌, ◌||◌, List, [], ◌∷◌, map, eqb, ltb, leb}
+use Rattle.std.specs.Prelude.{length, get_or, take, drop}
 use Rattle.rules.specs.Systems.{System, known, system, stands, allowed}
 use Rattle.rules.specs.Packet.{Packet, sound, word, check}
 use Rattle.rules.specs.Danc.{string_byte_count}

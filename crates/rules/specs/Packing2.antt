@@ -2,7 +2,8 @@
 --
 -- In order: fill; the free bits of a long pack; a string in long packs; the packs opened; room and count.
 -- Assumes nothing.
-use Rattle.std.specs.Prelude.{ℕ, ◌+◌, ◌-◌, ◌*◌, ◌%◌, ◌<◌, Bool, true, false, cond, List, [], ◌∷◌, ◌++◌, eqb, leb, length, get_or, take, drop, replicate}
+use Rattle.std.specs.Prelude.{ℕ, ◌+◌, ◌-◌, ◌*◌, ◌%◌, ◌<◌, Bool, true, false, cond, List, [], ◌∷◌, ◌++◌, eqb, leb, length, get_or, take}
+use Rattle.std.specs.Prelude.{drop, replicate}
 use Rattle.rules.specs.Base.{all_is}
 
 abbrev pub fill : ℕ → List ℕ

@@ -2,7 +2,8 @@
 --
 -- In order: a packet's bytes (15, 16, 20); a string (14); packs of 5 (13, 14); user bytes (13); the area (3, 4, 17); the answer.
 -- Assumes nothing.
-use Rattle.std.specs.Prelude.{ℕ, suc, ◌+◌, ◌*◌, ◌/◌, ◌%◌, Bool, true, false, cond, not, ◌&&◌, ◌||◌, List, [], ◌∷◌, ◌++◌, eqb, ltb, leb, length, get_or, take, drop}
+use Rattle.std.specs.Prelude.{ℕ, suc, ◌+◌, ◌*◌, ◌/◌, ◌%◌, Bool, true, false, cond, not, ◌&&◌, ◌||◌, List, [], ◌∷◌, ◌++◌, eqb, ltb, leb}
+use Rattle.std.specs.Prelude.{length, get_or, take, drop}
 use Rattle.rules.specs.Base.{all_is}
 use Rattle.rules.specs.Systems.{System, known, system, stands, allowed}
 use Rattle.rules.specs.Packet.{Packet, sound, check_of}

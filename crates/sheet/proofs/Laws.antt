@@ -145,7 +145,8 @@ module _ (y : System) (p : ℕ) (ls : List ℕ) (h : length ls ≡ 2 * p) (o : O
       rw (
         all-stand (front-all (in_place y) (location_stands y) standing p ls h z),
         count_at 20 (location_allowed y) 0 p ls o h,
-        eq-eqb (in_front (location_allowed y) ls) p (front-all (in_place y) (location_allowed y) (λ l m q. (both (ltb m 4) (allowed y l) q).1) p ls h z),
+        eq-eqb (in_front (location_allowed y) ls) p
+            (front-all (in_place y) (location_allowed y) (λ l m q. (both (ltb m 4) (allowed y l) q).1) p ls h z),
       )
     where
       standing : (l m : ℕ) → in_place y l m ≡ true → location_stands y l m ≡ true
@@ -383,4 +384,5 @@ module _ (s : List ℕ) where
     unfolding tested sheet_tests
     the-list z r h =
         rw (sh, is_known (system_in s) x named z)
-        (h (system (system_in s)) (sym (last-is (system_in s) x named)) ∙ ap (λ (n : ℕ). tested_in n (words_in s) (list_tests (system (system_in s)) s)) is)
+        (h (system (system_in s)) (sym (last-is (system_in s) x named))
+        ∙ ap (λ (n : ℕ). tested_in n (words_in s) (list_tests (system (system_in s)) s)) is)

@@ -3,7 +3,8 @@
 -- In order: the packets of a string; the numbers written; the buffer afterwards; the words of one packet; what the parts of the writing
 -- say.
 -- Assumes nothing.
-use Rattle.std.specs.Prelude.{ℕ, ◌+◌, ◌*◌, ◌<◌, ◌≡◌, Bool, true, false, cond, ◌&&◌, ◌||◌, List, [], ◌∷◌, ◌++◌, map, eqb, ltb, leb, length, get_or, take, drop}
+use Rattle.std.specs.Prelude.{ℕ, ◌+◌, ◌*◌, ◌<◌, ◌≡◌, Bool, true, false, cond, ◌&&◌, ◌||◌, List, [], ◌∷◌, ◌++◌, map, eqb, ltb, leb, length}
+use Rattle.std.specs.Prelude.{get_or, take, drop}
 use Rattle.rules.specs.Packet.{Packet, word, check}
 use Rattle.rules.specs.Sheet.{all_words, sheet_of}
 use Rattle.rules.specs.Numbers.{Outcome, listed, refused, Row, packets_in}

@@ -320,7 +320,8 @@ module _ (sys total : ℕ) (us : List ℕ) (known : known sys ≡ true) (is : to
   users-mixed e a = rw (here 0xFF e, a)
 
   -- any other
-  pub users-other : (get_or us 0 0 ≡ 0xE1 → ⊥) → (get_or us 0 0 ≡ 0xE3 → ⊥) → (get_or us 0 0 ≡ 0xFF → ⊥) → packets_of_user_bytes y sizes ub ≡ refused 13 0
+  pub users-other : (get_or us 0 0 ≡ 0xE1 → ⊥) → (get_or us 0 0 ≡ 0xE3 → ⊥) → (get_or us 0 0 ≡ 0xFF → ⊥)
+      → packets_of_user_bytes y sizes ub ≡ refused 13 0
   unfolding packets_of_user_bytes
   users-other a b c = rw (first, ne_eqb (get_or us 0 0) 0xE1 a, ne_eqb (get_or us 0 0) 0xE3 b, ne_eqb (get_or us 0 0) 0xFF c)
 

@@ -23,7 +23,8 @@ answer-requires-2 c κs = search rules
 returns-2 : tie.Need-returns-then-string-place
 returns-2 c =
     let d = c.before.before in
-    c.answer-then-string-place.ensures ∙ step_end _ _ d.before.before.before.figures_of-figures.ensures _ _ d.before.if-figures-eq0.false c.before.if-string-place.true
+    c.answer-then-string-place.ensures
+    ∙ step_end _ _ d.before.before.before.figures_of-figures.ensures _ _ d.before.if-figures-eq0.false c.before.if-string-place.true
 
 sub-fault : tie.Need-slice_bounds-fault-count
 sub-fault c = search rules

@@ -30,7 +30,8 @@ returns : tie.Need-returns-then-ws-i-gt1023 invariant-loop decreases-loop
 returns c =
     let d = c.before.before.before in
     let ws = d.before.args.ws.now in
-    search-here is_ten are_ten ten_before each-ten d.loop-i.i ws c.before.before.loop-i-test.true (lt-leb _ 0x3FF c.if-ws-i-gt1023.true) ∙ d.loop-i.invariant
+    search-here is_ten are_ten ten_before each-ten d.loop-i.i ws c.before.before.loop-i-test.true (lt-leb _ 0x3FF c.if-ws-i-gt1023.true)
+    ∙ d.loop-i.invariant
 
 add-i : tie.Need-overflow_add-i invariant-loop decreases-loop
 add-i c = search rules
@@ -42,7 +43,8 @@ loop-again : tie.Need-loop-i-preserved invariant-loop decreases-loop
 loop-again c =
     let d = c.before.before.before in
     let ws = d.before.args.ws.now in
-    search-next is_ten are_ten ten_before each-ten d.loop-i.i ws c.before.before.loop-i-test.true (le-leb _ 0x3FF c.if-ws-i-gt1023.false) ∙ d.loop-i.invariant
+    search-next is_ten are_ten ten_before each-ten d.loop-i.i ws c.before.before.loop-i-test.true (le-leb _ 0x3FF c.if-ws-i-gt1023.false)
+    ∙ d.loop-i.invariant
 
 returns-2 : tie.Need-returns invariant-loop decreases-loop
 returns-2 c =

@@ -66,7 +66,8 @@ module _ (c : tie.After-pass_by-user) where
       let e : c.before.before.before.low_byte-end.result + 6 - 6 ≡ dc_in s = omega arith in
       subst (λ (n : ℕ). Passed by (take n (drop 6 s)) c.pass_by-user.result) e c.pass_by-user.ensures
 
-user-sum : (c : tie.Else-not-user) → (let p : tie.After-pass_by-user = c.before.before in p.pass_by-user.result.sum ≡ sum9 (take (dc_in (s p)) (drop 6 (s p))))
+user-sum : (c : tie.Else-not-user)
+    → (let p : tie.After-pass_by-user = c.before.before in p.pass_by-user.result.sum ≡ sum9 (take (dc_in (s p)) (drop 6 (s p))))
 user-sum c = (user c.before.before).sum (not-false _ c.if-not-user.false)
 
 -- ---- the needs

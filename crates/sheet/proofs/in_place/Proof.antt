@@ -16,7 +16,8 @@ use Rattle.sheet.proofs.in_place.Statement.{statement}
 use Rattle.sheet.proofs.in_place.Tie as tie
 
 abbrev invariant-loop : tie.invariant-loop-k
-invariant-loop last ls k₀ k = (2 * k ≤ length ls) × ((y : System) → y.last ≡ last.0 → k + in_front (in_place y) (drop (2 * k) ls) ≡ in_front (in_place y) ls)
+invariant-loop last ls k₀ k = (2 * k ≤ length ls) ×
+    ((y : System) → y.last ≡ last.0 → k + in_front (in_place y) (drop (2 * k) ls) ≡ in_front (in_place y) ls)
 
 abbrev decreases-loop : tie.decreases-loop-k
 decreases-loop last ls k₀ k = length ls - k

@@ -28,7 +28,8 @@ use Rattle.vanc.proofs.laying.lay.Tie as tie
 -- past the first test
 packing-of : (c : tie.Joined-else-packing-ne1) → is_packing c.before.before.before.args.packing ≡ true
 packing-of c =
-    ⊎_elim (λ w. packing-2 _ w.if-packing-ne1.true (eqb-true _ 2 (not-false _ w.if-packing-ne2.false-raw))) (λ w. packing-1 _ w.if-packing-ne1.false) c.else-packing-ne1.branch-raw
+    ⊎_elim (λ w. packing-2 _ w.if-packing-ne1.true (eqb-true _ 2 (not-false _ w.if-packing-ne2.false-raw)))
+    (λ w. packing-1 _ w.if-packing-ne1.false) c.else-packing-ne1.branch-raw
 
 -- past the sheet's shape and its system
 shape_of : (c : tie.Else-t-eq3) → shaped c.before.before.before.before.before.before.before.before.args.sheet.now ≡ true

@@ -27,7 +27,8 @@ lay1-requires c κs =
     let r : tie.Else-t-figures = c.before in
     let v : tie.After-section_c-ws = r.before.before.before in
     let f = v.before.before in
-    roomy1 _ _ f.before.before.before.requires _ f.figures_of-figures.ensures v.before.section_b-ls.ensures v.section_c-ws.ensures r.if-t-figures.false
+    roomy1 _ _ f.before.before.before.requires _ f.figures_of-figures.ensures v.before.section_b-ls.ensures v.section_c-ws.ensures
+    r.if-t-figures.false
 
 same_length : tie.Need-shape_of-area-then-packing-eq1
 same_length c = search rules
@@ -47,14 +48,16 @@ returns-3 : tie.Need-returns-then-t-figures-2
 returns-3 c =
     let i : tie.Else-packing-eq1 = c.before.before.before in
     let v : tie.After-section_c-ws = i.before in
-    full2 _ _ _ _ i.if-packing-eq1.false _ v.before.before.figures_of-figures.ensures _ c.before.if-t-figures-2.true c.refusal-then-t-figures-2.ensures
+    full2 _ _ _ _ i.if-packing-eq1.false _ v.before.before.figures_of-figures.ensures _ c.before.if-t-figures-2.true
+    c.refusal-then-t-figures-2.ensures
 
 lay2-requires : tie.Need-lay2-requires
 lay2-requires c κs =
     let r : tie.Else-t-figures-2 = c.before in
     let v : tie.After-section_c-ws = r.before.before.before in
     let f = v.before.before in
-    roomy2 _ _ f.before.before.before.requires _ f.figures_of-figures.ensures v.before.section_b-ls.ensures v.section_c-ws.ensures r.if-t-figures-2.false
+    roomy2 _ _ f.before.before.before.requires _ f.figures_of-figures.ensures v.before.section_b-ls.ensures v.section_c-ws.ensures
+    r.if-t-figures-2.false
 
 long-count-requires : tie.Need-long_count-requires
 long-count-requires c κs = search rules

@@ -61,7 +61,8 @@ returns-2 : tie.Need-returns-then-area-figures
 returns-2 c =
     let e : tie.Else-figures-eq0 = c.before.before.before in
     let b : tie.After-figures_of-figures = e.before.before in
-    other-reads (sys b) (area b) b.figures_of-figures.ensures (bytes b) e.if-figures-eq0.false c.before.if-area-figures.true c.refusal-then-area-figures.ensures
+    other-reads (sys b) (area b) b.figures_of-figures.ensures (bytes b) e.if-figures-eq0.false c.before.if-area-figures.true
+    c.refusal-then-area-figures.ensures
 
 collect-requires : tie.Need-collect-total-requires
 collect-requires c κs = search rules
@@ -85,7 +86,8 @@ returns-3 : tie.Need-returns
 returns-3 c =
     let o : tie.After-collect-total = c.before.before.before.before.before.before in
     let b = found o in
-    own-reads (sys b) (area b) b.figures_of-figures.ensures (bytes b) (some o).if-figures-eq0.false (own o).if-area-figures.false o.collect-total.ensures.0
+    own-reads (sys b) (area b) b.figures_of-figures.ensures (bytes b) (some o).if-figures-eq0.false (own o).if-area-figures.false
+    o.collect-total.ensures.0
     (start b).args.us.now o.collect-total.ensures.1 c.before.before.read_users.ensures
 
 pub read_with_spec : {M : Type 1} → statement M
