@@ -22,8 +22,12 @@ COUNT = "tests/edits/COUNT"
 PARTS = ("src", "specs", "proofs")
 CUT = 150
 # How the prover says that the proof speaks of steps which the edited code does not have, or has at another place (the types of what is known after a
-# step are in the module Lts). Such an edit shows nothing of the facts. Where all that it says is that a proof names what is gone, rt says so itself.
-OTHER_SHAPE = re.compile(r"is not admitted: rejected|was not checked|that can be named (from )?here|has no field|the two types differ only where one has `[^`\s]*\bLts\.[A-Z]")
+# step are in the module Lts; rt cuts a line, so that the name may end before that). Such an edit shows nothing of the facts. Where all that it says is
+# that a proof names what is gone, rt says so itself.
+OTHER_SHAPE = re.compile(
+    r"is not admitted: rejected|was not checked|that can be named (from )?here|has no field"
+    r"|the two types differ only where one has `[^`\s]*(\bLts\.[A-Z]|\.proofs\.[^`\s]*$)"
+)
 # What rt says of an edit: a label, and what came of it.
 SAID = re.compile(r"rt: must-fail (\S+)\.edit: (.*)")
 
