@@ -88,6 +88,12 @@ fn no_link(error: i32) -> i32 {
 pub fn link_at<R: Files + Alloc>(rt: &R, path: &[u8], to: &mut [u8]) -> Link
     ensures { IsPrefixLen result.bytes to.new }
 {
+    if path.contains(&0) {
+        return Link {
+            bytes: 0,
+            error: errors::EINVAL,
+        };
+    }
     match read_link(rt, path) {
         Ok(name) => Link {
             bytes: put(name.as_str().as_bytes(), to),

@@ -30,6 +30,11 @@ pub fn say(rt: &HostRuntime, what: &[u8], why: &[u8]) {
     let _ = limits::write(rt, Stream::Error, &rt.stderr(), &line[..n]);
 }
 
+// A page on standard error, as it stands.
+pub fn say_page(rt: &HostRuntime, page: &[u8]) {
+    let _ = limits::write(rt, Stream::Error, &rt.stderr(), page);
+}
+
 // Of a word that an operator wrote, which is quoted: what it should be, and what is wrong.
 pub fn say_quoted(rt: &HostRuntime, what: &[u8], word: &[u8], why: &[u8]) {
     let mut line = [0u8; 4352];

@@ -5,7 +5,6 @@ use crate::names;
 use crate::names::Command;
 use console::ending::{DONE, FAILED};
 use console::{arguments, ending};
-use std::io::Print;
 
 fn print(rt: &HostRuntime, page: &[u8]) -> i32 {
     ending::printed(rt, page, DONE, b"")
@@ -37,7 +36,7 @@ pub fn overview(rt: &HostRuntime) -> i32 {
 
 // For a call without arguments.
 pub fn say_overview(rt: &HostRuntime) -> i32 {
-    let _ = Print::write_all(&rt.stderr(), OVERVIEW);
+    files::say_page(rt, OVERVIEW);
     FAILED
 }
 
