@@ -23,8 +23,9 @@ returns-3 c = rw c.in-3.is refl
 
 returns-4 : tie.Need-returns-in_default
 unfolding figures_of system block_start shift width runs capacity
-returns-4 c = simp
-    (ne_eqb _ _ c.in_default.in_default-own.rest.0.0.1, ne_eqb _ _ c.in_default.in_default-own.rest.0.1, ne_eqb _ _ c.in_default.in_default-own.rest.1) refl
+returns-4 c =
+    let r = c.in_default.in_default-own.rest in
+    simp (ne_eqb _ _ r.0.0.1, ne_eqb _ _ r.0.1, ne_eqb _ _ r.1) refl
 
 pub figures_of_spec : {M : Type 1} → statement M
 figures_of_spec = tie.close (tie.spec returns returns-2 returns-3 returns-4)
