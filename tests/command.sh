@@ -1646,6 +1646,25 @@ for words in lay\ 1\ cue.sheet\ TO read\ 2\ fill_2_2.area\ TO mxf-write\ 0\ {ful
     sees same
   done
 done
+
+# To the byte: a line that has room to the limit's last byte behind what stands in the file, and one that lacks one; an area of 9,600 bytes likewise.
+need prlimit util-linux
+fresh "$samples/cue.sheet" "$samples/frame.area"
+line=$(vanc --version)
+start=limited_output
+head -c $((1024 - ${#line} - 1)) /dev/zero >"$work/limited"
+expect 0 "" "" --version
+[ "$(tail -n 1 "$work/limited" | tr -d '\0')" = "$line" ] || fail "a line that has room is not printed"
+head -c $((1024 - ${#line})) /dev/zero >"$work/limited"
+wrong "standard output: File too large"$'\n'"$unchanged" --version
+[ "$(stat -c %s "$work/limited")" = 1024 ] || fail "not as much is printed as there is room for"
+room_disk() (prlimit --pid "$BASHPID" --fsize="$room" && vanc "$@")
+start=room_disk room=9599
+expect 2 "" "frame.area: not written: File too large" lay 1 cue.sheet frame.area
+sees same
+room=9600
+expect 0 "laid packs 10 bytes 30" "" lay 1 cue.sheet frame.area
+! cmp -s "$samples/frame.area" frame.area || fail "the area is as it was"
 start=vanc
 
 # ---- calls that fail
