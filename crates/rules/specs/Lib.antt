@@ -10,6 +10,7 @@
 --   Packing1   "Packing 1, packs of 5"
 --   Packing2   "Packing 2, long packs"
 --   Packings   what the two have in common: user bytes, room, packs laid
+--   Refusals   refusals by their numbers
 --   Numbers    "Numbers given back": a list or a refusal, and the reading of packet after packet
 --   Laying     the tests of a sheet, and what laying gives back
 --   Found      packets as found: the tests of their sheet (document 02, A13)
@@ -27,6 +28,7 @@ pub mod Blocks
 pub mod Packing1
 pub mod Packing2
 pub mod Packings
+pub mod Refusals
 pub mod Numbers
 pub mod Laying
 pub mod Found

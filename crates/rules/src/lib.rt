@@ -1,6 +1,52 @@
 // The rules of the build. What a reader must believe is in specs/, what follows from it in proofs/.
-// Here are only the shapes of what the calls give back ("Numbers given back"), so that code and rules speak of one type.
+// Here are only the refusals and the shapes of what the calls give back ("Numbers given back"), so that code and rules speak of one type.
 #![tactic(auto)]
+
+ghost use Rattle.std.specs.Prelude.{◌≡◌};
+ghost use Rattle.rules.specs.Refusals.{number};
+
+// Why a sheet, an area, a string or an element is refused (document 01, "Numbers given back"; document 02, A1, A3, A14): each by its number.
+#[derive(Clone, Copy, PartialEq, Eq)]
+pub enum Refusal {
+    Packing = 1,
+    Shape = 2,
+    System = 3,
+    AreaLength = 4,
+    PacketLimit = 5,
+    Location = 6,
+    Flag = 7,
+    Word = 8,
+    CutOff = 9,
+    Checksum = 10,
+    PacketCount = 11,
+    Room = 12,
+    Packs = 13,
+    Length = 14,
+    StoredChecksum = 15,
+    Line = 16,
+    Buffer = 17,
+    NoLine = 18,
+    Element = 19,
+    PictureLine = 20,
+    EightBits = 29,
+}
+
+impl Refusal {
+    // As the calls give it back, and as the command prints it.
+    pub fn number(self) -> u64
+        ensures { result ≡ number self }
+    {
+        self as u64
+    }
+}
+
+// What is refused: the refusal and its place; of 7 to 10 the word too (document 02, A2), else 0.
+#[derive(Clone, Copy, PartialEq, Eq)]
+pub struct Refused {
+    pub refusal: Refusal,
+    pub place: usize,
+    pub word: usize,
+}
 
 // What the test of a packet gives back: the first word at fault (document 02, A2), or the packet's type, 1 or 2. On refusal kind is 0.
 #[repr(C)]
