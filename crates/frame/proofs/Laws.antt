@@ -1,13 +1,15 @@
 -- What callers use: a system is known exactly where its figures have sequences, and the figures that a call found are the system's.
 -- Assumes nothing.
 use Prim.Native.Nat.{ℕ}
+use Rattle.std.proofs.Common.{Option, Some, None}
 use mathlib.Core.Path.{◌≡◌, refl, sym, ap, ◌∙◌}
-use mathlib.Core.Bool.{Bool, true, false}
+use mathlib.Core.Bool.{Bool, true, false, cond}
 use native.Mathlib.Omega.{arith}
+use borrow.Author.Tests.{ne_eqb}
 use Rattle.rules.specs.Systems.{System, known, system}
 use Rattle.rules.specs.Blocks.{area_size}
 use Rattle.rules.proofs.Blocks.{each-system}
-use Rattle.frame.specs.Systems.{figures_of}
+use Rattle.frame.specs.Systems.{figures_of, figures_found}
 use Rattle.frame.specs.declared.Figures.{Figures}
 
 -- a system with no sequence is not known
@@ -47,3 +49,29 @@ module _ (sys : ℕ) (x : Figures) (found : x ≡ figures_of sys) where
 
   pub is_known : (x.sequences ≡ 0 → ⊥) → known sys ≡ true
   is_known z = known-figures sys (λ e. z (sequences-is ∙ e))
+
+-- figures are found exactly where the system is known, and then they are its own
+some-of : (k : Bool) (f x : Figures) → Some x ≡ cond k (Some f) None → (k ≡ true) × (x ≡ f)
+some-of true f x e = (refl, cc)
+some-of false f x e = absurd (cc)
+
+none-of : (k : Bool) (f : Figures) → None ≡ cond k (Some f) None → k ≡ false
+none-of true f e = absurd (cc)
+none-of false f e = refl
+
+pub found_known : (sys : ℕ) (x : Figures) → Some x ≡ figures_found sys → known sys ≡ true
+unfolding figures_found
+found_known sys x e = (some-of (known sys) (figures_of sys) x e).0
+
+pub found_is : (sys : ℕ) (x : Figures) → Some x ≡ figures_found sys → x ≡ figures_of sys
+unfolding figures_found
+found_is sys x e = (some-of (known sys) (figures_of sys) x e).1
+
+pub found_none : (sys : ℕ) → None ≡ figures_found sys → known sys ≡ false
+unfolding figures_found
+found_none sys e = none-of (known sys) (figures_of sys) e
+
+-- no number but 1 to 3 has figures
+pub none_found : (sys : ℕ) → (sys ≡ 1 → ⊥) → (sys ≡ 2 → ⊥) → (sys ≡ 3 → ⊥) → None ≡ figures_found sys
+unfolding figures_found known
+none_found sys a b c = rw (ne_eqb sys 1 a, ne_eqb sys 2 b, ne_eqb sys 3 c) refl

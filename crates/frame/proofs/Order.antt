@@ -3,6 +3,7 @@
 --
 -- In order: runs as moves; rows as runs; an area that is not the system's; one that is.
 -- Assumes nothing.
+use Rattle.std.proofs.Common.{Some, None}
 use Prim.Native.Nat.{ℕ, ◌+◌, ◌*◌, ◌/◌, ◌≤◌}
 use mathlib.Core.Path.{◌≡◌, refl, sym, ap, ◌∙◌}
 use mathlib.Core.Bool.{Bool, true, false}
@@ -17,11 +18,11 @@ use Rattle.rules.specs.Systems.{System, known, system}
 use Rattle.rules.specs.Blocks.{Run, block_start, shift, width, runs, sizes, block_sizes, area_size, gather, into, scatter}
 use Rattle.rules.proofs.Basics.{never, both, second-false}
 use Rattle.rules.proofs.Blocks.{all_within, facts-of, each-system}
-use Rattle.frame.specs.Systems.{figures_of}
+use Rattle.frame.specs.Systems.{figures_found}
 use Rattle.frame.specs.Bytes.{fits_area, collected, bytes_after, area_with}
 use Rattle.frame.specs.Moves.{Move, move, moved, four, row_out, row_in, rows_out, rows_in}
 use Rattle.frame.specs.declared.Figures.{Figures}
-use Rattle.frame.proofs.Laws.{sequences-is, area-is, is-unknown, is_known}
+use Rattle.frame.proofs.Laws.{sequences-is, area-is, found_known, found_is, found_none}
 
 -- ---- runs as moves
 
@@ -91,15 +92,15 @@ rows_of =
 
 -- ---- an area that is not the system's
 
--- a system whose figures have no sequence has no area
-pub no-system : (sys : ℕ) (f : Figures) (area : List ℕ) → f ≡ figures_of sys → f.sequences ≡ 0 → fits_area sys area ≡ false
-no-system sys f area e z = rw (is-unknown sys f e z)
+-- a system that is not known has no area
+pub no-system : (sys : ℕ) (area : List ℕ) → None ≡ figures_found sys → fits_area sys area ≡ false
+no-system sys area e = rw (found_none sys e)
 
 -- an area of another length is not the system's
-pub other_length : (sys : ℕ) (f : Figures) (area : List ℕ) → f ≡ figures_of sys → (length area ≡ f.area → ⊥) → fits_area sys area ≡ false
+pub other_length : (sys : ℕ) (f : Figures) (area : List ℕ) → Some f ≡ figures_found sys → (length area ≡ f.area → ⊥) → fits_area sys area ≡ false
 other_length sys f area e n =
     second-false (known sys) (eqb (length area) (area_size (system sys)))
-    (ne_eqb (length area) (area_size (system sys)) (λ q. n (q ∙ sym (area-is sys f e))))
+    (ne_eqb (length area) (area_size (system sys)) (λ q. n (q ∙ sym (area-is sys f (found_is sys f e)))))
 
 -- then nothing is taken out of it, and nothing is laid
 pub none_out : (sys : ℕ) (area us : List ℕ) → fits_area sys area ≡ false → (0 ≡ collected sys area) × (us ≡ bytes_after sys area us)
@@ -119,9 +120,10 @@ pub record Own (sys n : ℕ) (area : List ℕ) : Type 0 where
   pub long : length area ≡ area_size (system sys)
 
 -- past the tests of a call it is so
-pub own-area : (sys : ℕ) (f : Figures) (area : List ℕ) → f ≡ figures_of sys → (f.sequences ≡ 0 → ⊥) → length area ≡ f.area
-    → Own sys f.sequences area
-own-area sys f area e z l = record { is_known_system = is_known sys f e z; count = sequences-is sys f e; long = l ∙ area-is sys f e }
+pub own-area : (sys : ℕ) (f : Figures) (area : List ℕ) → Some f ≡ figures_found sys → length area ≡ f.area → Own sys f.sequences area
+own-area sys f area e l =
+    let k = found_is sys f e in
+    record { is_known_system = found_known sys f e; count = sequences-is sys f k; long = l ∙ area-is sys f k }
 
 module _ (sys n : ℕ) (area : List ℕ) (o : Own sys n area) where
   -- it is laid in rows

@@ -1,7 +1,7 @@
 -- The figures of a system as this crate hands them out: each is what the rules compute from the system's blocks.
 -- Assumes nothing.
-use Rattle.std.specs.Prelude.{ℕ}
-use Rattle.rules.specs.Systems.{system}
+use Rattle.std.specs.Prelude.{ℕ, Option, Some, None, cond}
+use Rattle.rules.specs.Systems.{known, system}
 use Rattle.rules.specs.Blocks.{block_sizes, area_size}
 use Rattle.rules.specs.Packings.{capacity}
 use Rattle.frame.specs.declared.Line.{Line}
@@ -21,3 +21,7 @@ figures_of sys =
       packs = capacity 1 (block_sizes (system sys));
       string_bytes = capacity 2 (block_sizes (system sys));
     }
+
+-- and those that are found: none of a system that is not known
+unfoldable pub figures_found : ℕ → Option Figures
+figures_found sys = cond (known sys) (Some (figures_of sys)) None

@@ -4,7 +4,7 @@
 
 ghost use Rattle.std.specs.Prelude.{◌≡◌, ◌<◌};
 ghost use Rattle.rules.specs.Blocks.{block_start};
-ghost use Rattle.frame.specs.Systems.{figures_of};
+ghost use Rattle.frame.specs.Systems.{figures_found};
 ghost use Rattle.frame.specs.Bytes.{fits_area, collected, bytes_after, area_with};
 
 mod blocks;
@@ -78,7 +78,7 @@ impl Hd720x60p {
     pub const STRING: usize = 7440;
 }
 
-// All figures of a system; all 0 for a system that is not known.
+// All figures of a system.
 #[derive(Clone, Copy)]
 pub struct Figures {
     pub sequences: usize,
@@ -88,39 +88,33 @@ pub struct Figures {
     pub string_bytes: usize,
 }
 
-// A sheet and a call name their system by number: its figures are what the rules compute from the blocks.
-pub fn figures_of(system: u64) -> Figures
-    ensures { result ≡ figures_of system }
+// A sheet and a call name their system by number: its figures are what the rules compute from the blocks. None of one that is not known.
+pub fn figures_of(system: u64) -> Option<Figures>
+    ensures { result ≡ figures_found system }
 {
     match system {
-        1 => Figures {
+        1 => Some(Figures {
             sequences: Hd1080x60i::SEQUENCES,
             last_line: Hd1080x60i::LAST_LINE,
             area: Hd1080x60i::AREA,
             packs: Hd1080x60i::PACKS,
             string_bytes: Hd1080x60i::STRING,
-        },
-        2 => Figures {
+        }),
+        2 => Some(Figures {
             sequences: Hd1080x50i::SEQUENCES,
             last_line: Hd1080x50i::LAST_LINE,
             area: Hd1080x50i::AREA,
             packs: Hd1080x50i::PACKS,
             string_bytes: Hd1080x50i::STRING,
-        },
-        3 => Figures {
+        }),
+        3 => Some(Figures {
             sequences: Hd720x60p::SEQUENCES,
             last_line: Hd720x60p::LAST_LINE,
             area: Hd720x60p::AREA,
             packs: Hd720x60p::PACKS,
             string_bytes: Hd720x60p::STRING,
-        },
-        _ => Figures {
-            sequences: 0,
-            last_line: Line(0),
-            area: 0,
-            packs: 0,
-            string_bytes: 0,
-        },
+        }),
+        _ => None,
     }
 }
 
@@ -145,11 +139,10 @@ pub fn collect(system: u64, area: &[u8], us: &mut [u8; 9360]) -> usize
     ensures value { result ≡ collected system area.now }
     ensures us_after { us.new ≡ bytes_after system area.now us.old }
 {
-    let figures = figures_of(system);
-    let n = figures.sequences;
-    if n == 0 {
+    let Some(figures) = figures_of(system) else {
         return 0;
-    }
+    };
+    let n = figures.sequences;
     if area.len() != figures.area {
         return 0;
     }
@@ -163,11 +156,10 @@ pub fn spread(system: u64, us: &[u8; 9360], area: &mut [u8]) -> bool
     ensures value { result ≡ fits_area system area.old }
     ensures area_after { area.new ≡ area_with system us.now area.old }
 {
-    let figures = figures_of(system);
-    let n = figures.sequences;
-    if n == 0 {
+    let Some(figures) = figures_of(system) else {
         return false;
-    }
+    };
+    let n = figures.sequences;
     if area.len() != figures.area {
         return false;
     }

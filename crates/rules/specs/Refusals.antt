@@ -3,8 +3,27 @@
 use Rattle.std.specs.Prelude.{ℕ, Option, None, Some}
 use Rattle.rules.specs.declared.Refusal.{Refusal}
 use Rattle.rules.specs.declared.Refusal.TheVariants.{
-  Packing, Shape, System, AreaLength, PacketLimit, Location, Flag, Word, CutOff, Checksum, PacketCount, Room, Packs, Length, StoredChecksum, Line, Buffer,
-  NoLine, Element, PictureLine, EightBits,
+  Packing,
+  Shape,
+  System,
+  AreaLength,
+  PacketLimit,
+  Location,
+  Flag,
+  Word,
+  CutOff,
+  Checksum,
+  PacketCount,
+  Room,
+  Packs,
+  Length,
+  StoredChecksum,
+  Line,
+  Buffer,
+  NoLine,
+  Element,
+  PictureLine,
+  EightBits,
 }
 
 -- the number of a refusal
