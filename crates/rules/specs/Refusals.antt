@@ -1,7 +1,8 @@
 -- Refusals by their numbers ("Numbers given back"; document 02, A1, A3, A14).
 -- Assumes nothing.
-use Rattle.std.specs.Prelude.{ℕ, Option, None, Some}
+use Rattle.std.specs.Prelude.{ℕ, Option, None, Some, Result, Ok, Err}
 use Rattle.rules.specs.declared.Refusal.{Refusal}
+use Rattle.rules.specs.declared.Refused.{Refused}
 use Rattle.rules.specs.declared.Refusal.TheVariants.{
   Packing,
   Shape,
@@ -54,3 +55,20 @@ number EightBits = 29
 abbrev pub number_of : Option Refusal → ℕ
 number_of None = 0
 number_of (Some refusal) = number refusal
+
+-- what is told of a refusal: its number, its place and its word
+pub record Told : Type 0 where
+  pub number : ℕ
+  pub place : ℕ
+  pub word : ℕ
+
+abbrev pub tell : ℕ → ℕ → ℕ → Told
+tell n i w = record { number = n; place = i; word = w }
+
+abbrev pub told : Refused → Told
+told e = tell (number e.refusal) e.place e.word
+
+-- and of a result, where it is one
+abbrev pub told_of : {A : Type 0} → Result A Refused → Result A Told
+told_of (Ok a) = Ok a
+told_of (Err e) = Err (told e)
