@@ -7,6 +7,7 @@ use Prim.Native.Nat.{ℕ, zero, suc, ◌+◌, ◌-◌, ◌≤◌, ◌<◌}
 use mathlib.Core.Path.{◌≡◌, refl, sym, ap, ◌∙◌, subst}
 use mathlib.Core.Bool.{Bool, true, false, cond, ◌||◌}
 use mathlib.Core.List.{List, [], ◌∷◌, ◌++◌, map, append-nil}
+use Rattle.std.proofs.Common.{Option, Some, None}
 use native.Mathlib.Omega.{arith}
 use lib.Dec.{eqb, ltb, leb}
 use lib.ListN.{length, get_or, take, drop, length-append, length-drop, drop_of_length-le}
@@ -132,13 +133,13 @@ next (x ∷ s) h k =
 -- ---- counting
 
 count-place : (k : ℕ) (o q : Outcome) → no_place o ≡ no_place q → count_from k o ≡ count_from k q
-count-place k (listed ps) (listed qs) e = let z : ps ≡ qs = cc in ap (λ (rs : List Packet). k + length rs) z
+count-place k (listed ps) (listed qs) e = let z : ps ≡ qs = cc in ap (λ (rs : List Packet). Some (k + length rs)) z
 count-place k (listed ps) (refused n i) e = never (cc)
 count-place k (refused n i) (listed qs) e = never (cc)
 count-place k (refused n i) (refused m j) e = refl
 
 count-also : (k : ℕ) (p : Packet) (o : Outcome) → count_from k (also p o) ≡ count_from (k + 1) o
-count-also k p (listed ps) = omega arith
+count-also k p (listed ps) = let e : k + suc (length ps) ≡ k + 1 + length ps = omega arith in ap (λ (n : ℕ). Some n) e
 count-also k p (refused n i) = refl
 
 count-more : (k : ℕ) (s : List ℕ) → 7 ≤ length s → size_in s ≤ length s → count_from (k + 1) (shown (drop (size_in s) s)) ≡ count_from k (shown s)
@@ -159,37 +160,37 @@ module _ (us : List ℕ) (end at k : ℕ) (inside : end ≤ length us) where
   abbrev s : List ℕ
   s = take end us
 
-  abbrev here : ℕ
+  abbrev here : Option ℕ
   here = count_from k (shown (drop at s))
 
   left : length (drop at s) ≡ end - at
   left = length-drop at s ∙ ap (λ (n : ℕ). n - at) (length-take-le end us inside)
 
-  few : at < end → end - at < 7 → here ≡ 65536
+  few : at < end → end - at < 7 → here ≡ None
   few n h = let l = left in rw (shown-few (drop at s) (omega arith) (omega arith))
 
   -- no packet is read here: the packets end with the string, or past it, or too little of it is left
-  pub measure-end : end < at + 7 → cond (eqb at end) k 65536 ≡ count_to end at k us
+  pub measure-end : end < at + 7 → cond (eqb at end) (Some k) None ≡ count_to end at k us
   measure-end h = go (ltb at end) (eqb at end) refl refl
     where
-      go : (a b : Bool) → ltb at end ≡ a → eqb at end ≡ b → cond (eqb at end) k 65536 ≡ count_to end at k us
+      go : (a b : Bool) → ltb at end ≡ a → eqb at end ≡ b → cond (eqb at end) (Some k) None ≡ count_to end at k us
       go true true p q = let l = ltb-true at end p in let e = eqb-true at end q in absurd (omega arith)
       go true false p q =
           let l = ltb-true at end p in
           rw (q, le-leb at end (omega arith)) (sym (few (omega arith) (omega arith)))
       go false true p q =
           let e = eqb-true at end q in
-          rw (q, le-leb at end (omega arith), shown-none (drop at s) (left ∙ (omega arith))) (omega arith)
+          rw (q, le-leb at end (omega arith), shown-none (drop at s) (left ∙ (omega arith))) (let n : k ≡ k + 0 = omega arith in ap (λ (m : ℕ). Some m) n)
       go false false p q =
           let l = ltb-false at end p in
           let n = eqb-false at end q in
           rw (q, lt-leb at end (omega arith))
 
   module _ (dc : ℕ) (e : dc ≡ get_or us (at + 5) 0) (h : at < end) where
-    past : end < at + (dc + 7) → here ≡ 65536
+    past : end < at + (dc + 7) → here ≡ None
     past c = go (leb (at + 7) end) refl
       where
-        go : (b : Bool) → leb (at + 7) end ≡ b → here ≡ 65536
+        go : (b : Bool) → leb (at + 7) end ≡ b → here ≡ None
         go true p =
             let m = leb-true (at + 7) end p in
             let l = left in

@@ -4,7 +4,7 @@
 -- say.
 -- Assumes nothing.
 use Rattle.std.specs.Prelude.{ℕ, ◌+◌, ◌*◌, ◌<◌, ◌≡◌, Bool, true, false, cond, ◌&&◌, ◌||◌, List, [], ◌∷◌, ◌++◌, map, eqb, ltb, leb, length}
-use Rattle.std.specs.Prelude.{get_or, take, drop}
+use Rattle.std.specs.Prelude.{get_or, take, drop, Option, Some, None}
 use Rattle.rules.specs.Packet.{Packet, word, check}
 use Rattle.rules.specs.Sheet.{all_words, sheet_of}
 use Rattle.rules.specs.Numbers.{Outcome, listed, refused, Row, packets_in}
@@ -40,12 +40,12 @@ abbrev pub has_room : ℕ → ℕ → List Packet → Bool
 has_room sys room ps = leb (length (all_words ps)) 65535 && leb (length (sheet_of sys ps)) room
 
 -- the numbers of the sheet of a list, into a buffer of `room` numbers
-abbrev pub wrote_of : ℕ → ℕ → Outcome → ℕ
-wrote_of sys room (listed ps) = cond (has_room sys room ps) (length (sheet_of sys ps)) 0
-wrote_of sys room (refused n i) = 0
+abbrev pub wrote_of : ℕ → ℕ → Outcome → Option ℕ
+wrote_of sys room (listed ps) = cond (has_room sys room ps) (Some (length (sheet_of sys ps))) None
+wrote_of sys room (refused n i) = None
 
--- how many numbers are written of the sheet of a string's packets; 0 for none
-unfoldable pub wrote : ℕ → List ℕ → ℕ → ℕ
+-- how many numbers are written of the sheet of a string's packets, if it is written
+unfoldable pub wrote : ℕ → List ℕ → ℕ → Option ℕ
 wrote sys s room = wrote_of sys room (shown s)
 
 -- ---- the buffer afterwards
@@ -99,12 +99,12 @@ pub record Measured (packets : ℕ) (s out : List ℕ) : Type 0 where
   pub few : length s < 65536
   pub room : length out ≡ 4 + 2 * packets + length s
 
--- k packets, and those of a list; of a refusal 65,536, which no count of packets in a frame's user bytes is
-abbrev pub count_from : ℕ → Outcome → ℕ
-count_from k (listed ps) = k + length ps
-count_from k (refused n i) = 65536
+-- k packets, and those of a list; of a refusal no count
+abbrev pub count_from : ℕ → Outcome → Option ℕ
+count_from k (listed ps) = Some (k + length ps)
+count_from k (refused n i) = None
 
 -- the packets of a run from a place on, as far as the string goes that is its front, and k before them; packets that have gone past its end are
 -- not whole
-abbrev pub count_to : ℕ → ℕ → ℕ → List ℕ → ℕ
-count_to end at k us = cond (leb at end) (count_from k (shown (drop at (take end us)))) 65536
+abbrev pub count_to : ℕ → ℕ → ℕ → List ℕ → Option ℕ
+count_to end at k us = cond (leb at end) (count_from k (shown (drop at (take end us)))) None

@@ -1,7 +1,7 @@
 // Writing the sheet of packets: "16-bit numbers .. in three sections, each after its count".
 // The packets come as a string of DANC bytes, which is what a reader has found. The string is measured before a number is written,
 // so that a buffer without room for the sheet stays as it was.
-ghost use Rattle.std.specs.Prelude.{◌≡◌, cond, List, ◌++◌, map, ℕ, ◌+◌, ◌-◌, ◌*◌, ◌%◌, ◌≤◌, ◌<◌, min, eqb, length, take, drop};
+ghost use Rattle.std.specs.Prelude.{◌≡◌, cond, Some, None, List, ◌++◌, map, ℕ, ◌+◌, ◌-◌, ◌*◌, ◌%◌, ◌≤◌, ◌<◌, min, eqb, length, take, drop};
 ghost use Rattle.rules.specs.Packet.{word, sum9};
 ghost use Rattle.rules.specs.Sheet.{locations, all_words, sheet_of};
 ghost use Rattle.rules.specs.Reading.{line_of};
@@ -22,9 +22,6 @@ const SHORT: usize = 16;
 // The words of fewer bytes than so many, of one packet, are looked up; those of more are faster in vectors.
 const FEW: usize = 32;
 
-// What `measure` answers where the bytes are not whole packets: no count of packets in 9,360 bytes.
-const NOT_WHOLE: usize = 65536;
-
 // A sheet has a line's number alone.
 fn line_of(h0: u8, h1: u8) -> u16
     ensures { result ≡ line_of h0 h1 }
@@ -43,19 +40,19 @@ fn stop_of(end: usize) -> usize
 }
 
 // Whole packets end where the string does.
-fn measured(end: usize, at: usize, k: usize) -> usize
-    ensures { result ≡ cond (eqb at end) k 65536 }
+fn measured(end: usize, at: usize, k: usize) -> Option<usize>
+    ensures { result ≡ cond (eqb at end) (Some k) None }
 {
     if at == end {
-        return k;
+        return Some(k);
     }
-    NOT_WHOLE
+    None
 }
 
 // "A string is nothing, or one packet and then a string that is shorter by that packet": how many packets stand from `at` to `end`, and
-// k before them. The bytes left fall at each call. Over an array, and with a number as answer, the calls become a loop. It asks of each packet
+// k before them; none where the bytes are not whole packets. The bytes left fall at each call. Over an array the calls become a loop. It asks of each packet
 // only whether one starts: one that is cut leads past the end, and whether the last ended there is asked once.
-fn measure(us: &[u8; 9360], stop: usize, end: usize, at: usize, k: usize) -> usize
+fn measure(us: &[u8; 9360], stop: usize, end: usize, at: usize, k: usize) -> Option<usize>
     requires { (length us.now ≡ 9360) × (end ≤ 9360) × (stop ≡ min end 9354) × (k ≤ at) }
     ensures { result ≡ count_to end at k us.now }
 {
@@ -257,23 +254,18 @@ fn within(end: usize) -> usize
     LONGEST
 }
 
-// The sheet of the packets of a string, which is `us` up to `end`, at the start of a buffer; its numbers are counted. 0, and nothing
+// The sheet of the packets of a string, which is `us` up to `end`, at the start of a buffer; its numbers are counted. None, and nothing
 // written, where the bytes are not whole packets, or where the sheet is longer than the buffer: "A sheet has 4 + 2P + W numbers".
-pub fn write_sheet(system: u16, us: &[u8; 9360], end: usize, sheet: &mut [u16]) -> usize
+pub fn write_sheet(system: u16, us: &[u8; 9360], end: usize, sheet: &mut [u16]) -> Option<usize>
     ensures value { result ≡ wrote system (take end us.now) (length sheet.old) }
     ensures sheet_after { sheet.new ≡ sheet_after system (take end us.now) sheet.old }
 {
-    // lent whole, which tells the proof its length
-    let whole = &us[..];
     let bytes = within(end);
-    let packets = measure(us, stop_of(bytes), bytes, 0, 0);
-    if packets == NOT_WHOLE {
-        return 0;
-    }
+    let packets = measure(us, stop_of(bytes), bytes, 0, 0)?;
     let n = 4 + 2 * packets + bytes;
     if sheet.len() < n {
-        return 0;
+        return None;
     }
-    write_sections(system, packets, &whole[..bytes], &mut sheet[..n]);
-    n
+    write_sections(system, packets, &us[..bytes], &mut sheet[..n]);
+    Some(n)
 }

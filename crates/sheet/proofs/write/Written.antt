@@ -6,9 +6,10 @@ use Prim.Native.Nat.{ℕ, zero, suc, ◌+◌, ◌-◌, ◌*◌, ◌%◌, ◌≤�
 use mathlib.Core.Path.{◌≡◌, refl, sym, ap, ap₂, ◌∙◌}
 use mathlib.Core.Bool.{true, false}
 use mathlib.Core.List.{List, [], ◌∷◌, ◌++◌, map}
+use Rattle.std.proofs.Common.{Option, Some, None}
 use native.Mathlib.Omega.{arith}
 use native.Mathlib.Numerals.{add-one, add-three, add_seven}
-use lib.Dec.{leb}
+use lib.Dec.{leb, leb-zero}
 use lib.ListN.{length, get_or, take, drop, set, length-append, length-drop, length-set, length-map, take-append-drop}
 use lib.Seq.{length-take-le, get_or-take, get_or-drop, drop-cons, drop-drop, take-add, take_at, drop_at, take_all, take-take, take-suc-set}
 use borrow.Author.Tests.{lt-leb, le-leb, ne_eqb}
@@ -16,14 +17,14 @@ use Rattle.rules.specs.Packet.{Packet, body, ones, parity, word, sum9, check, co
 use Rattle.rules.specs.Sheet.{locations, all_words, sheet_of}
 use Rattle.rules.specs.Numbers.{Outcome, listed, refused}
 use Rattle.rules.specs.Reading.{line_of, flags_of, packet_of_bytes}
-use Rattle.rules.proofs.Basics.{second-false}
+use Rattle.rules.proofs.Basics.{second-false, never}
 use Rattle.rules.proofs.Words.{words-room}
 use Rattle.rules.proofs.Sheets.{sheet-length}
 use Rattle.packet.specs.Run.{check_sum, word_table}
 use Rattle.packet.proofs.Laws.{table_at, check-of-sum}
 use Rattle.packet.proofs.Faults.{heads}
 use Rattle.sheet.specs.Write.{size_in, shown, has_room, wrote_of, wrote, after_of, sheet_after, framed, words_after, list_in, packets_shown, Whole}
-use Rattle.sheet.specs.Write.{head_of, id_sum, Measured, count_from}
+use Rattle.sheet.specs.Write.{head_of, id_sum, Measured, count_from, count_to}
 use Rattle.sheet.proofs.Filling.{one_more, two-more, part-long, part-behind, part-front, part-more, all-written}
 use Rattle.sheet.proofs.Filling.{three_of, back_of, three-tail, back_long, back-set, sheet-before, sheet-lent, sheet-long, sheet-filled}
 use Rattle.sheet.proofs.WriteLaws.{words-after, size-at, words_long, whole_long, words-short, pass, passed-all}
@@ -428,11 +429,11 @@ module _ (sys packets : ℕ) (s out ls : List ℕ) (m : Measured packets s out) 
 -- ---- the sheet
 
 module _ (sys : ℕ) (s buffer : List ℕ) where
-  abbrev Answer : ℕ → List ℕ → Type 0
+  abbrev Answer : Option ℕ → List ℕ → Type 0
   Answer n after = (n ≡ wrote sys s (length buffer)) × (after ≡ sheet_after sys s buffer)
 
   -- nothing is written
-  nothing : (o : Outcome) → shown s ≡ o → ((ps : List Packet) → o ≡ listed ps → has_room sys (length buffer) ps ≡ false) → Answer 0 buffer
+  nothing : (o : Outcome) → shown s ≡ o → ((ps : List Packet) → o ≡ listed ps → has_room sys (length buffer) ps ≡ false) → Answer None buffer
   unfolding wrote sheet_after
   nothing (refused n i) e h = rw e (refl, refl)
   nothing (listed ps) e h = rw (e, h ps refl) (refl, refl)
@@ -447,7 +448,7 @@ module _ (sys : ℕ) (s buffer : List ℕ) where
         let d = (whole_long s w).same in
         omega arith
 
-    pub no_room : length buffer < n → Answer 0 buffer
+    pub no_room : length buffer < n → Answer None buffer
     no_room h = nothing (shown s) refl full
       where
         full : (ps : List Packet) → shown s ≡ listed ps → has_room sys (length buffer) ps ≡ false
@@ -455,29 +456,65 @@ module _ (sys : ℕ) (s buffer : List ℕ) where
             let k : length (sheet_of sys ps) ≡ n = ap (λ (o : Outcome). length (sheet_of sys (list_in o))) (sym q) ∙ numbers in
             second-false (leb (length (all_words ps)) 65535) _ (lt-leb (length (sheet_of sys ps)) (length buffer) (omega arith))
 
-    pub all_room : n ≤ length buffer → (ys : List ℕ) → ys ≡ sheet_of sys (packets_shown s) → Answer n (ys ++ drop n buffer)
+    pub all_room : n ≤ length buffer → (ys : List ℕ) → ys ≡ sheet_of sys (packets_shown s) → Answer (Some n) (ys ++ drop n buffer)
     unfolding wrote sheet_after
     all_room h ys q = go (shown s) (packets_shown s) w q numbers (words-short s (packets_shown s) w short)
       where
         go : (o : Outcome) (ps : List Packet) → o ≡ listed ps → ys ≡ sheet_of sys ps → length (sheet_of sys ps) ≡ n
-            → leb (length (all_words ps)) 65535 ≡ true → (n ≡ wrote_of sys (length buffer) o) × (ys ++ drop n buffer ≡ after_of sys buffer o)
+            → leb (length (all_words ps)) 65535 ≡ true → (Some n ≡ wrote_of sys (length buffer) o) × (ys ++ drop n buffer ≡ after_of sys buffer o)
         go o ps e q k x = rw (e, x, k, le-leb n (length buffer) h) (refl, ap (λ (t : List ℕ). t ++ drop n buffer) q)
 
   -- what `measure` answers
-  module _ (r : ℕ) (e : r ≡ count_from 0 (shown s)) (few : length s ≤ 9360) where
-    pub not-whole : r ≡ 65536 → Answer 0 buffer
-    not-whole h = nothing (shown s) refl many
-      where
-        many : (ps : List Packet) → shown s ≡ listed ps → has_room sys (length buffer) ps ≡ false
-        many ps q =
-            let k = (whole_long s (q ∙ ap (λ (o : Outcome). listed (list_in o)) (sym q))).few in
-            let l : length (packets_shown s) ≡ length ps = ap (λ (o : Outcome). length (list_in o)) q in
-            let n : r ≡ 0 + length ps = e ∙ ap (count_from 0) q in
-            absurd (omega arith)
+  module _ (r : Option ℕ) (e : r ≡ count_from 0 (shown s)) where
+    pub not-whole : r ≡ None → Answer None buffer
+    not-whole h = nothing (shown s) refl (λ ps q. never (let n : r ≡ count_from 0 (listed ps) = e ∙ ap (count_from 0) q in cc))
 
-    pub is_whole : (r ≡ 65536 → ⊥) → Whole s × (r ≡ length (packets_shown s))
-    is_whole h = go (shown s) e
-      where
-        go : (o : Outcome) → r ≡ count_from 0 o → (o ≡ listed (list_in o)) × (r ≡ length (list_in o))
-        go (listed ps) e = (refl, omega arith)
-        go (refused n i) e = absurd (h e)
+-- ---- the sheet of a string that is the front of an array
+
+-- what is known of it once it has been measured
+pub record Known (us : List ℕ) (end bytes packets : ℕ) : Type 0 where
+  pub same : take bytes us ≡ take end us
+  pub long : length (take bytes us) ≡ bytes
+  pub short : bytes ≤ 9360
+  pub whole : Whole (take bytes us)
+  pub count : packets ≡ length (packets_shown (take bytes us))
+  pub few : packets ≤ 9360
+
+module _ (us : List ℕ) (end bytes : ℕ) (r : Option ℕ) (all : length us ≡ 9360)
+    (w : (bytes ≤ 9360) × ((s : List ℕ) → length s ≡ 9360 → take bytes s ≡ take end s)) (e : r ≡ count_to bytes 0 0 us) where
+  counted-from : r ≡ count_from 0 (shown (take bytes us))
+  counted-from = e ∙ rw (leb-zero bytes)
+
+  pub known : (packets : ℕ) → r ≡ Some packets → Known us end bytes packets
+  known packets h =
+      let k = is_whole (shown (take bytes us)) (sym h ∙ counted-from) in
+      let b = w.0 in
+      let l : length (take bytes us) ≡ bytes = length-take-le bytes us (omega arith) in
+      let f = (whole_long (take bytes us) k.0).few in
+      record { same = w.1 us all; long = l; short = b; whole = k.0; count = k.1; few = omega arith }
+    where
+      is_whole : (o : Outcome) → Some packets ≡ count_from 0 o → (o ≡ listed (list_in o)) × (packets ≡ length (list_in o))
+      is_whole (listed ps) e = (refl, let n : packets ≡ 0 + length ps = cc in omega arith)
+      is_whole (refused n i) e = never (cc)
+
+  -- no whole packets, and nothing is written
+  pub none-written : (sys : ℕ) (buffer : List ℕ) → r ≡ None → Answer sys (take end us) buffer None buffer
+  none-written sys buffer h = rw (w.1 us all) at (not-whole sys (take bytes us) buffer r counted-from h)
+
+module _ (sys : ℕ) (buffer : List ℕ) {us : List ℕ} {end bytes packets : ℕ} (k : Known us end bytes packets) where
+  abbrev n : ℕ
+  n = 4 + 2 * packets + bytes
+
+  -- the sheet has no room, or it is written
+  pub no-room-written : length buffer < n → Answer sys (take end us) buffer None buffer
+  no-room-written m =
+      let l = k.long in
+      let b = k.short in
+      rw k.same at (no_room sys (take bytes us) buffer packets n k.whole k.count (omega arith) (omega arith) m)
+
+  pub sheet-written : n ≤ length buffer → (ys : List ℕ) → ys ≡ sheet_of sys (packets_shown (take bytes us))
+      → Answer sys (take end us) buffer (Some n) (ys ++ drop n buffer)
+  sheet-written m ys q =
+      let l = k.long in
+      let b = k.short in
+      rw k.same at (all_room sys (take bytes us) buffer packets n k.whole k.count (omega arith) (omega arith) m ys q)
