@@ -1,6 +1,6 @@
 -- What the rules say of a packet's bytes, one path of the code at a time.
 --
--- In order: the header as it is written; the sum of bytes; a packet's faults; a step of the walker.
+-- In order: the header as it is written; the sum of bytes; a packet's faults; refusals; a step of the walker.
 -- Assumes nothing.
 use Prim.Native.Nat.{ℕ, suc, ◌+◌, ◌-◌, ◌*◌, ◌/◌, ◌%◌, ◌≤◌, ◌<◌}
 use mathlib.Core.Path.{◌≡◌, refl, sym, ap, ap₂, ◌∙◌}
@@ -12,18 +12,18 @@ use lib.ListN.{length, get_or, take, drop, replicate, length-drop, length-take, 
 use lib.Seq.{length-take-le, get_or-take, get_or-drop}
 use borrow.Author.Tests.{ltb-false, eqb-true, lt-ltb, le-ltb, eq-eqb, ne_eqb, le-leb, lt-leb}
 use Rattle.rules.specs.Base.{all_is, sum}
-use Rattle.rules.specs.Systems.{System, system, stands, allowed}
+use Rattle.rules.specs.Systems.{System, known, system, stands, allowed}
 use Rattle.rules.specs.Packet.{Packet, parity, word, sum9, check, coded, check_of}
 use Rattle.rules.specs.Danc.{written, header}
 use Rattle.rules.specs.Reading.{line_in, line_of, packet_of_bytes, bytes_fault, string_fault}
+use Rattle.rules.specs.Refusals.{number}
 use Rattle.rules.specs.Walker.{step, walk}
+use Rattle.rules.specs.declared.Refusal.{Refusal}
+use Rattle.rules.specs.declared.Refusal.TheVariants as kind
 use Rattle.rules.proofs.Basics.{chosen, fill-all_is, rest_part}
 use Rattle.rules.proofs.Lines.{allowed-none, allowed-last}
 use Rattle.rules.proofs.Walker.{step_end as ended}
-use Rattle.frame.specs.Systems.{figures_of}
 use Rattle.frame.specs.Lines.{is_in, lines_of}
-use Rattle.frame.specs.declared.Figures.{Figures}
-use Rattle.frame.proofs.Laws.{is-unknown, is_known}
 use Rattle.frame.proofs.Vanc.{in_lines}
 use Rattle.danc.specs.Header.{cs_right, line_number}
 
@@ -207,30 +207,55 @@ part-whole us end at h w =
     let e = get_or-drop at us 5 0 in
     omega arith
 
+-- ---- refusals
+
+-- each has a number
+pub is-some : (r : Refusal) → number r ≡ 0 → ⊥
+is-some kind.Packing e = absurd (omega arith)
+is-some kind.Shape e = absurd (omega arith)
+is-some kind.System e = absurd (omega arith)
+is-some kind.AreaLength e = absurd (omega arith)
+is-some kind.PacketLimit e = absurd (omega arith)
+is-some kind.Location e = absurd (omega arith)
+is-some kind.Flag e = absurd (omega arith)
+is-some kind.Word e = absurd (omega arith)
+is-some kind.CutOff e = absurd (omega arith)
+is-some kind.Checksum e = absurd (omega arith)
+is-some kind.PacketCount e = absurd (omega arith)
+is-some kind.Room e = absurd (omega arith)
+is-some kind.Packs e = absurd (omega arith)
+is-some kind.Length e = absurd (omega arith)
+is-some kind.StoredChecksum e = absurd (omega arith)
+is-some kind.Line e = absurd (omega arith)
+is-some kind.Buffer e = absurd (omega arith)
+is-some kind.NoLine e = absurd (omega arith)
+is-some kind.Element e = absurd (omega arith)
+is-some kind.PictureLine e = absurd (omega arith)
+is-some kind.EightBits e = absurd (omega arith)
+
 -- ---- a step of the walker
 
--- from what the code holds: the system's figures
-module _ (sys : ℕ) (f : Figures) (e : f ≡ figures_of sys) where
-  module _ (s : List ℕ) (at : ℕ) where
-    pub step-unknown : f.sequences ≡ 0 → step 3 0 0 ≡ walk sys s at
-    unfolding walk
-    step-unknown z = rw (is-unknown sys f e z)
+module _ (sys : ℕ) (s : List ℕ) (at : ℕ) where
+  pub step-unknown : known sys ≡ false → step 3 0 0 ≡ walk sys s at
+  unfolding walk
+  step-unknown e = rw e
 
-    module _ (h : f.sequences ≡ 0 → ⊥) where
-      pub step_end : length s ≤ at → step 0 at 0 ≡ walk sys s at
-      step_end l = sym (ended sys (is_known sys f e h) s at l)
+  -- of a system that is known
+  module _ (e : known sys ≡ true) where
+    pub step_end : length s ≤ at → step 0 at 0 ≡ walk sys s at
+    step_end l = sym (ended sys e s at l)
 
-      -- the number that the tests of the packet give
-      module _ (l : at < length s) (n : ℕ) (w : n ≡ string_fault (system sys) (take (length s - at) (drop at s))) where
-        fault-at : n ≡ string_fault (system sys) (drop at s)
-        fault-at = rw (rest_part at s) at w
+    -- the number that the tests of the packet give
+    module _ (l : at < length s) (n : ℕ) (w : n ≡ string_fault (system sys) (take (length s - at) (drop at s))) where
+      fault-at : n ≡ string_fault (system sys) (drop at s)
+      fault-at = rw (rest_part at s) at w
 
-        pub step-fault : (n ≡ 0 → ⊥) → step n at 0 ≡ walk sys s at
-        unfolding walk
-        step-fault k = rw (is_known sys f e h, lt-leb (length s) at l, ← fault-at, ne_eqb n 0 k)
+      pub step-fault : (n ≡ 0 → ⊥) → step n at 0 ≡ walk sys s at
+      unfolding walk
+      step-fault k = rw (e, lt-leb (length s) at l, ← fault-at, ne_eqb n 0 k)
 
-        pub step-packet : n ≡ 0 → (dc : ℕ) → dc ≡ get_or s (at + 5) 0 → step 0 at (dc + 7) ≡ walk sys s at
-        unfolding walk
-        step-packet z dc d =
-            let k : string_fault (system sys) (drop at s) ≡ 0 = sym fault-at ∙ z in
-            rw (is_known sys f e h, lt-leb (length s) at l, k, get_or-drop at s 5 0, d)
+      pub step-packet : n ≡ 0 → (size : ℕ) → size ≡ get_or (take (length s - at) (drop at s)) 5 0 + 7 → step 0 at size ≡ walk sys s at
+      unfolding walk
+      step-packet z size d =
+          let k : string_fault (system sys) (drop at s) ≡ 0 = sym fault-at ∙ z in
+          rw (e, lt-leb (length s) at l, k) (ap (λ (m : ℕ). step 0 at m) (rw (rest_part at s) at d))

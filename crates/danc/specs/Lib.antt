@@ -1,8 +1,8 @@
 -- What the contracts of this crate cite, beside the rules.
 --
 --   Header      the line that header bytes show
---   Code        an outcome as one number
+--   Answer      an outcome as the validation of a string tells it
 --   Validated   the answer of the validation of a string
 pub mod Header
-pub mod Code
+pub mod Answer
 pub mod Validated
