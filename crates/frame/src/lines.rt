@@ -1,6 +1,6 @@
 // The lines on which a packet may stand (document 02, A3): no line, or a line of the vertical interval where no signal is switched (003, table
 // 3a). Where a run of lines begins and where it ends is asked in an order that tells the most lines with the fewest tests.
-ghost use Rattle.std.specs.Prelude.{◌≡◌, ◌≤◌};
+ghost use Rattle.std.specs.Prelude.{◌≡◌, ℕ, ◌≤◌};
 ghost use Rattle.rules.specs.Systems.{System, allowed};
 ghost use Rattle.frame.specs.Lines.{lines_of, is_in};
 
@@ -59,24 +59,52 @@ pub fn may_stand(last: Line, line: Line) -> bool
     true
 }
 
-// The same lines of 1080, and no line, told without a branch: in a loop such comparisons become vector code, which tests many lines at a time.
+// A format whose lines 003, table 3a tells.
+pub trait Raster {
+    ghost last: { ℕ };
+
+    // Whether a packet may stand on the line. It is told without a branch: in a loop such comparisons become vector code, which tests many lines
+    // at a time.
+    fn is_allowed(line: Line) -> bool
+        ensures { (y : System) → y.last ≡ last → result ≡ allowed y line.0 };
+}
+
+pub struct Raster1080;
+
+impl Raster for Raster1080 {
+    ghost last = { 1125 };
+
+    fn is_allowed(line: Line) -> bool {
+        let n = line.0;
+        (n < 7)
+            | ((9 <= n) & (n <= 20))
+            | ((561 <= n) & (n <= 568))
+            | ((571 <= n) & (n <= 583))
+            | ((1124 <= n) & (n <= 1125))
+    }
+}
+
+pub struct Raster720;
+
+impl Raster for Raster720 {
+    ghost last = { 750 };
+
+    fn is_allowed(line: Line) -> bool {
+        let n = line.0;
+        (n < 7) | ((9 <= n) & (n <= 25)) | ((746 <= n) & (n <= 750))
+    }
+}
+
 pub fn is_allowed_in_1080(line: Line) -> bool
     ensures { (y : System) → y.last ≡ 1125 → result ≡ allowed y line.0 }
 {
-    let n = line.0;
-    (n < 7)
-        | ((9 <= n) & (n <= 20))
-        | ((561 <= n) & (n <= 568))
-        | ((571 <= n) & (n <= 583))
-        | ((1124 <= n) & (n <= 1125))
+    Raster1080::is_allowed(line)
 }
 
-// The same of 720.
 pub fn is_allowed_in_720(line: Line) -> bool
     ensures { (y : System) → y.last ≡ 750 → result ≡ allowed y line.0 }
 {
-    let n = line.0;
-    (n < 7) | ((9 <= n) & (n <= 25)) | ((746 <= n) & (n <= 750))
+    Raster720::is_allowed(line)
 }
 
 // The same lines as bits, which a caller asks for once: to find a line among them takes no branch. Line n is bit n % 64 of number n / 64. Line 0
