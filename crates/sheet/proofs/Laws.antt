@@ -7,6 +7,7 @@ use mathlib.Core.Path.{◌≡◌, refl, sym, ap, ap₂, ◌∙◌}
 use mathlib.Core.Logic.{◌⊎◌, inl, inr}
 use mathlib.Core.Bool.{Bool, true, false, cond, not, ◌&&◌}
 use mathlib.Core.List.{List, [], ◌∷◌}
+use Rattle.std.proofs.Common.{Option, Some, None}
 use native.Mathlib.Nat.{zero-add}
 use native.Mathlib.Numerals.{add-one}
 use native.Mathlib.Omega.{arith}
@@ -28,9 +29,9 @@ use Rattle.rules.proofs.Basics.{both, second-false, rest_part}
 use Rattle.rules.proofs.Lines.{allowed-stands}
 use Rattle.rules.proofs.Words.{words-refused}
 use Rattle.packet.specs.Run.{counted}
-use Rattle.frame.specs.Systems.{figures_of}
+use Rattle.frame.specs.Systems.{figures_of, figures_found}
 use Rattle.frame.specs.declared.Figures.{Figures}
-use Rattle.frame.proofs.Laws.{last-is, is-unknown, is_known}
+use Rattle.frame.proofs.Laws.{last-is, found_known, found_is, found_none}
 use Rattle.sheet.specs.Standing.{location_tests, in_front, in_place, AllInPlace}
 
 -- ---- the shape
@@ -369,20 +370,18 @@ module _ (s : List ℕ) where
   misshapen e = rw e
 
   -- a sheet of the right shape, and the figures of the system that it names
-  module _ (sh : shaped s ≡ true) (sys : ℕ) (is : sys ≡ system_in s) (x : Figures) (found : x ≡ figures_of sys) where
-    named : x ≡ figures_of (system_in s)
-    named = found ∙ ap figures_of is
-
+  module _ (sh : shaped s ≡ true) (sys : ℕ) (is : sys ≡ system_in s) where
     -- "system not 1 to 3"
-    pub unknown : x.sequences ≡ 0 → tested_of 0 (refused 3 0) ≡ tested s
+    pub unknown : None ≡ figures_found sys → tested_of 0 (refused 3 0) ≡ tested s
     unfolding tested sheet_tests word_at
-    unknown z = rw (sh, is-unknown (system_in s) x named z)
+    unknown e = rw (sh, found_none (system_in s) (e ∙ ap figures_found is))
 
     -- and the list's own tests
-    pub the-list : (x.sequences ≡ 0 → ⊥) → (r : Tested)
+    pub the-list : (x : Figures) → Some x ≡ figures_found sys → (r : Tested)
         → ((y : System) → y.last ≡ x.last_line.0 → r ≡ tested_in sys (words_in s) (list_tests y s)) → r ≡ tested s
     unfolding tested sheet_tests
-    the-list z r h =
-        rw (sh, is_known (system_in s) x named z)
-        (h (system (system_in s)) (sym (last-is (system_in s) x named))
+    the-list x e r h =
+        let f : Some x ≡ figures_found (system_in s) = e ∙ ap figures_found is in
+        rw (sh, found_known (system_in s) x f)
+        (h (system (system_in s)) (sym (last-is (system_in s) x (found_is (system_in s) x f)))
         ∙ ap (λ (n : ℕ). tested_in n (words_in s) (list_tests (system (system_in s)) s)) is)

@@ -188,9 +188,8 @@ pub fn test(s: &[u16]) -> Tested
         return refusal(2, 0, 0);
     }
     let system = wide(s[1]) as u64;
-    let figures = frame::figures_of(system);
-    if figures.sequences == 0 {
+    let Some(figures) = frame::figures_of(system) else {
         return refusal(3, 0, 0);
-    }
+    };
     list_tests(system, figures.last_line, s)
 }
