@@ -15,6 +15,10 @@ use lib.ListN.{length, get_or, take, drop, length-append, length-drop, length-ma
 use lib.Seq.{length-take-le, take-length, take_at, take-take, get_or-take}
 use borrow.Author.Tests.{ltb-true, eqb-true, eqb-false, ne_eqb, lt-ltb, leb-true}
 use Rattle.rules.specs.Base.{all_is, All, none, one, Bytes}
+use Rattle.std.specs.Prelude.{Option, None, Some, Result, Ok, Err}
+use Rattle.rules.specs.declared.Refusal.{Refusal}
+use Rattle.rules.specs.declared.Refused.{Refused}
+use Rattle.rules.specs.Refusals.{Told, tell, told, told_of}
 use Rattle.rules.specs.Systems.{System}
 use Rattle.rules.specs.Packet.{Packet}
 use Rattle.rules.specs.Danc.{Item, Good, packets_of, danc, string, string_byte_count}
@@ -26,14 +30,14 @@ use Rattle.rules.specs.Reading.{lead, front_bytes, carriers_fit, packs_fault, pa
 use Rattle.rules.proofs.Basics.{never, both, take-bytes, drop-bytes, joined-append, all_append}
 use Rattle.rules.proofs.Strings.{danc-length, item_of, bytes-laid, string-room}
 use Rattle.rules.proofs.Packs.{lead-within}
-use Rattle.danc.specs.Code.{base, code_of}
+use Rattle.danc.specs.declared.Validated.{Validated}
+use Rattle.danc.specs.Answer.{counted, answer_of}
 use Rattle.danc.specs.Validated.{judged_as}
-use Rattle.danc.proofs.Codes.{refusal-code}
-use Rattle.unpacking1.specs.Open.{packs_at, Within, used, order_from, fits, PacketOpened, Opens}
-use Rattle.unpacking1.specs.Open.{packets_from, packets_of_packs, end_code, packets_of_fives}
+use Rattle.unpacking1.specs.Open.{packs_at, Within, used, order_from, order_first, fits, NotMoved, MovedTo, Opens}
+use Rattle.unpacking1.specs.Open.{packets_from, packets_of_packs, wrong_length, placed, order_before, end_answer, packets_of_fives}
 use Rattle.unpacking1.proofs.Packs.{kept-later, kept_at, kept-packs, window-front, window-at, window-part}
 use Rattle.unpacking1.proofs.Packs.{pack_at, packs-drop, packs-length, first-pack}
-use Rattle.unpacking1.proofs.Order.{used-within, used-goes, order-ends, order-one, order-place}
+use Rattle.unpacking1.proofs.Order.{used-within, used-goes, order-ends, order-none, order-some}
 use Rattle.unpacking1.proofs.Packet.{carried-length}
 
 -- ---- packets in front of an outcome
@@ -91,21 +95,24 @@ prefix-fault y (a ∷ b ∷ c ∷ d ∷ []) h = absurd (omega arith)
 prefix-fault y (a ∷ b ∷ c ∷ d ∷ e ∷ []) h = absurd (omega arith)
 prefix-fault y (a ∷ b ∷ c ∷ d ∷ e ∷ n ∷ t) h = prefix-whole y a b c d e n t (omega arith)
 
--- the code of a fault is 0 where it is none, and the number of its refusal where it is one
-module _ {c : ℕ} (f k : ℕ) (e : c ≡ cond (eqb f 0) 0 (code_of 0 0 (refused f k))) where
-  code-none : c ≡ 0 → f ≡ 0
-  code-none z = go (eqb f 0) refl e
-    where
-      go : (t : Bool) → eqb f 0 ≡ t → c ≡ cond t 0 (code_of 0 0 (refused f k)) → f ≡ 0
-      go true x e = eqb-true f 0 x
-      go false x e = absurd (omega arith)
+-- what is told of a fault: nothing where it is none, and its refusal where it is one
+abbrev told_by : Bool → ℕ → ℕ → Result Unit Told
+told_by t f k = cond t (Ok tt) (Err (tell f k 0))
 
-  code-some : (c ≡ 0 → ⊥) → (f ≡ 0 → ⊥) × (c ≡ code_of 0 0 (refused f k))
-  code-some z = go (eqb f 0) refl e
+module _ (f k : ℕ) where
+  none-told : Ok tt ≡ told_by (eqb f 0) f k → f ≡ 0
+  none-told e = go (eqb f 0) refl e
     where
-      go : (t : Bool) → eqb f 0 ≡ t → c ≡ cond t 0 (code_of 0 0 (refused f k)) → (f ≡ 0 → ⊥) × (c ≡ code_of 0 0 (refused f k))
-      go true x e = absurd (z e)
-      go false x e = (eqb-false f 0 x, e)
+      go : (t : Bool) → eqb f 0 ≡ t → Ok tt ≡ told_by t f k → f ≡ 0
+      go true x e = eqb-true f 0 x
+      go false x e = never (cc)
+
+  some-told : (s : Told) → Err s ≡ told_by (eqb f 0) f k → (f ≡ 0 → ⊥) × (s ≡ tell f k 0)
+  some-told s e = go (eqb f 0) refl e
+    where
+      go : (t : Bool) → eqb f 0 ≡ t → Err s ≡ told_by t f k → (f ≡ 0 → ⊥) × (s ≡ tell f k 0)
+      go true x e = never (cc)
+      go false x e = (eqb-false f 0 x, cc)
 
 -- ---- a packet of a row of packs
 
@@ -162,11 +169,10 @@ pub record Done (y : System) (before us : List ℕ) (total r w k : ℕ) : Type 0
   pub rest : packets_from y (packs_at before 0 total)
       ≡ also_all (packets_of items) (packets_in (pack_row y) (limit - k) k (packs_at before r total))
 
--- what holds when packet k is next: `us` are the bytes that were `before`, opened up to r, where a pack begins, and the packs from there on are
--- in order where all are. A packet takes two packs at least
+-- what holds when packet k is next: `us` are the bytes that were `before`, opened up to r, and the packs from there on are in order where all
+-- are. A packet takes two packs at least
 pub record Opening (last : ℕ) (before us : List ℕ) (total r w k : ℕ) : Type 0 where
   pub packs : Within before r total
-  pub place : r % 5 ≡ 0
   pub low : w ≤ r
   pub few : 10 * k ≤ r
   pub order : order_from false r (packs_at before r total) ≡ order_from false 0 (packs_at before 0 total)
@@ -180,7 +186,6 @@ pub opening-none : (last : ℕ) (us : List ℕ) (total : ℕ) → Within us 0 to
 opening-none last us total p l =
     record {
       packs = p;
-      place = refl;
       low = omega arith;
       few = omega arith;
       order = refl;
@@ -194,13 +199,9 @@ opening-none last us total p l =
     from_first y = ap (λ (n : ℕ). packets_in (pack_row y) n 0 (packs_at us 0 total)) (sym (sub-zero limit))
 
 -- a refusal leaves nothing to say of the bytes
-coded-opens : {y : System} {o : Outcome} {n k r : ℕ} {us : List ℕ} → o ≡ refused n k → r ≡ code_of 0 0 (refused n k) → Opens y o r us
-coded-opens {y} {o} {n} {k} {r} e q = record { answer = q ∙ ap (code_of 0 0) (sym e); string = λ ps f. never (cc) }
-
--- number and packet have room in the number that `refusal` answers
-pub refused-opens : {y : System} {o : Outcome} {n k r : ℕ} {us : List ℕ} → o ≡ refused n k → n < base → k < base
-    → r ≡ code_of 0 0 (refused (n % base) (k % base)) → Opens y o r us
-refused-opens {y} {o} {n} {k} {r} e h j q = coded-opens e (refusal-code r n k q h j)
+pub refused-opens : {y : System} {o : Outcome} {n k : ℕ} {r : Result Validated Refused} {us : List ℕ} → o ≡ refused n k
+    → told_of r ≡ Err (tell n k 0) → Opens y o r us
+refused-opens e q = record { answer = q ∙ ap (answer_of 0 0) (sym e); string = λ ps f. never (cc) }
 
 module _ {last : ℕ} {before us : List ℕ} {total r w k : ℕ} (v : Opening last before us total r w k) where
   -- all packs, and those that are left
@@ -219,26 +220,22 @@ module _ {last : ℕ} {before us : List ℕ} {total r w k : ℕ} (v : Opening la
   order-us = ap (order_from false r) left-us ∙ v.order
 
   -- 13
-  pub refused-order : order_from false 0 packs ≡ 1 → (y : System) → packets_of_packs y packs ≡ refused 13 0
-  refused-order e y = ap (λ (b : Bool). unless 13 b (packets_from y packs)) (order-one 0 refl packs e)
+  pub refused-order : order_from false 0 packs ≡ None → (y : System) → packets_of_packs y packs ≡ refused 13 0
+  refused-order e y = ap (λ (b : Bool). unless 13 b (packets_from y packs)) (order-none 0 packs e)
 
   -- packs in order: what their packets give is the outcome
-  module _ (o : order_from false 0 packs ≡ 1 → ⊥) where
+  module _ {fill : ℕ} (o : order_from false 0 packs ≡ Some fill) where
     in_order_lem : (y : System) {p : Outcome} → packets_from y packs ≡ p → packets_of_packs y packs ≡ p
-    in_order_lem y q = ap (λ (b : Bool). unless 13 b (packets_from y packs)) (order-place 0 refl packs o).0 ∙ q
+    in_order_lem y q = ap (λ (b : Bool). unless 13 b (packets_from y packs)) (order-some 0 packs o).0 ∙ q
 
     -- those left are so too
-    left-place : (in_order false left ≡ true) × (order_from false r left ≡ r + 5 * used left)
-    left-place = order-place r v.place left (λ e. o (sym v.order ∙ e))
+    left-place : (in_order false left ≡ true) × (fill ≡ r + 5 * used left)
+    left-place = order-some r left (v.order ∙ o)
 
   -- no more packets than there are packs for
   pub below-limit : r < total → k < limit
   unfolding limit
   below-limit h = let a = v.few in let b = v.packs.all in let c = v.size in omega arith
-
-  -- a refusal has room for the packet
-  pub below-base : k < base
-  below-base = let a = v.few in let p = v.packs in let b = p.all in let d = p.reach in let c = v.size in omega arith
 
   -- the first w bytes are there
   front_long : length (take w us) ≡ w
@@ -268,9 +265,9 @@ module _ {last : ℕ} {before us : List ℕ} {total r w k : ℕ} (v : Opening la
   refused-is y e n q = whole_is y e (refused n k) q ∙ also-refused (packets_of (v.done y e).items) n k
 
   -- the end
-  module _ (o : order_from false 0 packs ≡ 1 → ⊥) (ends : packs_end left ≡ true) where
+  module _ {fill : ℕ} (o : order_from false 0 packs ≡ Some fill) (ends : packs_end left ≡ true) where
     -- how many packets there are and where their string ends, which stands in front
-    opening-done : (y : System) → y.last ≡ last → Opens y (packets_of_packs y packs) (k + base * w) us
+    opening-done : (y : System) → y.last ≡ last → Opens y (packets_of_packs y packs) (Ok (counted k w)) us
     opening-done y e =
         let d = v.done y e in
         let xs : List Item = d.items in
@@ -280,7 +277,11 @@ module _ {last : ℕ} {before us : List ℕ} {total r w k : ℕ} (v : Opening la
         let t = front_long in
         let n : w ≡ string_byte_count (packets_of xs) = sym t ∙ ap length d.laid ∙ string-room xs in
         record {
-          answer = (let z : k + base * w ≡ code_of 0 0 (listed (packets_of xs)) = omega arith in z) ∙ ap (code_of 0 0) (sym q);
+          answer =
+              (let z : k ≡ 0 + length (packets_of xs) = omega arith in
+              let i : w ≡ 0 + string_byte_count (packets_of xs) = omega arith in
+              ap₂ (λ (a b : ℕ). Ok (counted a b)) z i)
+              ∙ ap (answer_of 0 0) (sym q);
           string =
               λ ps f.
               let p : packets_of xs ≡ ps = cc in
@@ -304,7 +305,8 @@ module _ {last : ℕ} {before us : List ℕ} {total r w k : ℕ} (v : Opening la
         refused-is y e n (ap (λ (m : ℕ). packets_in (pack_row y) m k left) more ∙ packs-fault y left k (limit - (k + 1)) n goes f z)
 
     -- 14, of packs in order
-    fourteen : (order_from false 0 packs ≡ 1 → ⊥) → fits left ≡ false → (y : System) → y.last ≡ last → packets_of_packs y packs ≡ refused 14 k
+    fourteen : {fill : ℕ} → order_from false 0 packs ≡ Some fill → fits left ≡ false → (y : System) → y.last ≡ last
+        → packets_of_packs y packs ≡ refused 14 k
     fourteen o f y e =
         in_order_lem o y
         (refused-fault 14 (λ z. omega arith) y e (fault-is y left ∙ ap (λ (b : Bool). cond b (bytes_fault y (front_bytes left)) 14) f))
@@ -319,34 +321,31 @@ module _ {last : ℕ} {before us : List ℕ} {total r w k : ℕ} (v : Opening la
         ap (λ (i : ℕ). eqb i 0xE1) (sym k) ∙ (rw (lt-ltb r total h) at n) in
         rw (first-pack v.packs h, e)
 
-    pub opening-ended : {q : ℕ} → q ≡ end_code (order_from false r (packs_at us r total)) r w k
+    pub opening-ended : {q : Result Validated Refused} → q ≡ end_answer (order_from false r (packs_at us r total)) r (counted k w)
         → (y : System) → y.last ≡ last → Opens y (packets_of_packs y packs) q us
     opening-ended {q} c y e =
-        go (eqb (order_from false 0 packs) 1) refl (eqb (order_from false 0 packs) r) refl (c ∙ ap (λ (x : ℕ). end_code x r w k) order-us)
+        go (order_from false 0 packs) refl (c ∙ ap (λ (x : Option ℕ). end_answer x r (counted k w)) order-us)
       where
-        -- fill begins here, or a pack is left
-        here : (order_from false 0 packs ≡ 1 → ⊥) → r + 5 * used left ≡ order_from false 0 packs
-        here o = sym (left-place o).1 ∙ v.order
-
-        go : (a : Bool) → eqb (order_from false 0 packs) 1 ≡ a → (b : Bool) → eqb (order_from false 0 packs) r ≡ b
-            → q ≡ cond a (code_of 0 0 (refused 13 0)) (cond b (k + base * w) (code_of 0 0 (refused 14 (k % base))))
-            → Opens y (packets_of_packs y packs) q us
-        go true f b g c = refused-opens (refused-order (eqb-true (order_from false 0 packs) 1 f) y) (omega arith) (omega arith) c
-        go false f true g c =
-            let o = eqb-false (order_from false 0 packs) 1 f in
-            let u : used left ≡ 0 = let h = here o in let i = eqb-true (order_from false 0 packs) r g in omega arith in
+        -- fill begins at `fill`: here, or a pack is left
+        ends : {fill : ℕ} → order_from false 0 packs ≡ Some fill → (b : Bool) → eqb fill r ≡ b
+            → q ≡ cond b (Ok (counted k w)) (Err (wrong_length k)) → Opens y (packets_of_packs y packs) q us
+        ends {fill} o true g c =
+            let u : used left ≡ 0 = let h = (left-place o).1 in let i = eqb-true fill r g in omega arith in
             let d : packs_end left ≡ true =
             ap (λ (m : ℕ). packs_end (drop m left)) (sym u) ∙ order-ends false left (left-place o).0 in
             rw c (opening-done o d y e)
-        go false f false g c =
-            let o = eqb-false (order_from false 0 packs) 1 f in
-            let h = here o in
-            let i = eqb-false (order_from false 0 packs) r g in
+        ends {fill} o false g c =
+            let h = (left-place o).1 in
+            let i = eqb-false fill r g in
             let u : 0 < used left = omega arith in
             let l = used-within left in
             let m = packs-length v.packs in
             let t : r < total = omega arith in
-            refused-opens (fourteen t (used-goes left u) o (no_start t) y e) (omega arith) below-base c
+            refused-opens (fourteen t (used-goes left u) o (no_start t) y e) (ap told_of c)
+
+        go : (o : Option ℕ) → order_from false 0 packs ≡ o → q ≡ end_answer o r (counted k w) → Opens y (packets_of_packs y packs) q us
+        go None f c = refused-opens (refused-order f y) (ap told_of c)
+        go (Some fill) f c = ends f (eqb fill r) refl c
 
   -- one packet more
   module _ (starts : (ltb r total && eqb (get_or us r 0) 0xE1) ≡ true) where
@@ -367,229 +366,226 @@ module _ {last : ℕ} {before us : List ℕ} {total r w k : ℕ} (v : Opening la
         let u : used left ≡ suc (used (packs_at before (r + 5) total)) = rw (first-pack v.packs packet-left, starter-there) refl in
         used-goes left (omega arith)
 
+    -- its packs do not pass 14: 13, where they are not in order, or 14
+    pub refused-packet : {refusal : Refusal} → NotMoved us r total refusal → (y : System) → y.last ≡ last → {s : List ℕ}
+        → Opens y (packets_of_packs y packs) (Err (placed refusal k)) s
+    refused-packet {refusal} o y e {s} = go (order_from false 0 packs) refl (o.order ∙ ap order_first order-us)
+      where
+        go : (x : Option ℕ) → order_from false 0 packs ≡ x → refusal ≡ order_first x → Opens y (packets_of_packs y packs) (Err (placed refusal k)) s
+        go None f q = refused-opens (refused-order f y) (ap (λ (i : Refusal). Err (told (placed i k))) q)
+        go (Some fill) f q =
+            refused-opens (fourteen packet-left left-goes f (ap fits (sym left-us) ∙ o.shut) y e) (ap (λ (i : Refusal). Err (told (placed i k))) q)
+
     -- after the packet was opened
-    module _ {after : List ℕ} {next : ℕ} (o : PacketOpened us after r total w next) where
-      -- 13: the packs are not in order
-      pub refused-wrong : next ≡ 1 → (y : System) → packets_of_packs y packs ≡ refused 13 0
-      refused-wrong q y = refused-order (sym order-us ∙ o.wrong q) y
+    module _ {after : List ℕ} {next : ℕ} (o : MovedTo us after r total w next) where
+      -- they do: the bytes in its packs
+      abbrev bytes : List ℕ
+      bytes = front_bytes left
 
-      -- its packs do not pass 14
-      pub refused-fourteen : next ≡ 0 → (y : System) → y.last ≡ last → packets_of_packs y packs ≡ refused 14 k
-      refused-fourteen q y e =
-          fourteen packet-left left-goes (λ h. o.ordered q (order-us ∙ h)) (ap fits (sym left-us) ∙ o.shut q) y e
+      -- DC among them
+      abbrev size : ℕ
+      size = get_or bytes 5 0
 
-      module _ (z : 1 < next) where
-        -- they do: the bytes in its packs
-        abbrev bytes : List ℕ
-        bytes = front_bytes left
+      -- the packs behind its starter
+      abbrev later : List Five
+      later = packs_at before (r + 5) total
 
-        -- DC among them
-        abbrev size : ℕ
-        size = get_or bytes 5 0
+      -- 14 is passed
+      left-fits : fits left ≡ true
+      left-fits = ap fits (sym left-us) ∙ o.passes
 
-        -- the packs behind its starter
-        abbrev later : List Five
-        later = packs_at before (r + 5) total
+      -- the starter is the first pack left
+      left_is : left ≡ pack_at before r ∷ later
+      left_is = first-pack v.packs packet-left
 
-        -- 14 is passed
-        left-fits : fits left ≡ true
-        left-fits = ap fits (sym left-us) ∙ o.passes z
+      -- it is one, and has as many carriers as DC needs
+      parts : (get_or before r 0 ≡ 0xE1) × (lead later ≡ carriers_for size)
+      parts =
+          let q = fits-parts (pack_at before r) later (ap fits (sym left_is) ∙ left-fits) in
+          (q.0, q.1 ∙ ap (λ (s : List Five). carriers_for (get_or (front_bytes s) 5 0)) (sym left_is))
 
-        -- the starter is the first pack left
-        left_is : left ≡ pack_at before r ∷ later
-        left_is = first-pack v.packs packet-left
+      -- where its packs end
+      next-is : next ≡ r + 5 + 5 * lead later
+      next-is =
+          let q = o.place ∙ ap (λ (s : List Five). r + 10 + (get_or (front_bytes s) 5 0 + 3) / 4 * 5) left-us in
+          let l = parts.1 in
+          omega arith
 
-        -- it is one, and has as many carriers as DC needs
-        parts : (get_or before r 0 ≡ 0xE1) × (lead later ≡ carriers_for size)
-        parts =
-            let q = fits-parts (pack_at before r) later (ap fits (sym left_is) ∙ left-fits) in
-            (q.0, q.1 ∙ ap (λ (s : List Five). carriers_for (get_or (front_bytes s) 5 0)) (sym left_is))
+      -- fewer bytes are left
+      pub left-falls : total - next < total - r
+      left-falls = let n = next-is in fewer total r next packet-left (omega arith)
 
-        -- where its packs end
-        next-is : next ≡ r + 5 + 5 * lead later
-        next-is =
-            let q = o.place z ∙ ap (λ (s : List Five). r + 10 + (get_or (front_bytes s) 5 0 + 3) / 4 * 5) left-us in
-            let l = parts.1 in
-            omega arith
+      -- how many bytes they carry
+      bytes-length : length bytes ≡ 3 + 4 * lead later
+      bytes-length = ap (λ (s : List Five). length (front_bytes s)) left_is ∙ front-bytes-length (pack_at before r) later
 
-        -- fewer bytes are left
-        pub left-falls : total - next < total - r
-        left-falls = let n = next-is in fewer total r next packet-left (omega arith)
+      -- no fewer than the packet has
+      bytes-long : size + 7 ≤ length bytes
+      bytes-long = let a = bytes-length in let l = parts.1 in omega arith
 
-        -- how many bytes they carry
-        bytes-length : length bytes ≡ 3 + 4 * lead later
-        bytes-length = ap (λ (s : List Five). length (front_bytes s)) left_is ∙ front-bytes-length (pack_at before r) later
+      -- the packs behind its carriers
+      behind-is : packs_at before next total ≡ drop (lead later) later
+      behind-is =
+          let i = o.within in
+          let n = next-is in
+          ap (λ (a : ℕ). packs_at before a total) n ∙ sym (packs-drop (lead later) before (r + 5) total (omega arith) v.packs.all)
 
-        -- no fewer than the packet has
-        bytes-long : size + 7 ≤ length bytes
-        bytes-long = let a = bytes-length in let l = parts.1 in omega arith
+      -- are the packs from the next place on
+      after_is : after_carriers left ≡ packs_at before next total
+      after_is = ap after_carriers left_is ∙ sym behind-is
 
-        -- the packs behind its carriers
-        behind-is : packs_at before next total ≡ drop (lead later) later
-        behind-is =
-            let i = o.within z in
-            let n = next-is in
-            ap (λ (a : ℕ). packs_at before a total) n ∙ sym (packs-drop (lead later) before (r + 5) total (omega arith) v.packs.all)
+      -- in order where all are
+      order_is : order_from false next (packs_at before next total) ≡ order_from false 0 packs
+      order_is =
+          let n = next-is in
+          ap (order_from false next) (sym (kept-packs us before r v.kept next total (omega arith))) ∙ o.same ∙ order-us
 
-        -- are the packs from the next place on
-        after_is : after_carriers left ≡ packs_at before next total
-        after_is = ap after_carriers left_is ∙ sym behind-is
+      -- they are whole, and as they were
+      pub next-within : length after ≡ length us → Within after next total
+      next-within l =
+          let p = v.packs in
+          let a = p.all in
+          let b = p.whole in
+          let m = next-is in
+          let c = v.long in
+          record { reach = o.within; all = omega arith; whole = omega arith }
 
-        -- in order where all are
-        order_is : order_from false next (packs_at before next total) ≡ order_from false 0 packs
-        order_is =
-            let n = next-is in
-            ap (order_from false next) (sym (kept-packs us before r v.kept next total (omega arith))) ∙ o.same z ∙ order-us
+      next-kept : packs_at after next total ≡ packs_at before next total
+      next-kept =
+          let n = next-is in
+          kept-packs after us next o.moved.kept next total (omega arith)
+          ∙ kept-packs us before r v.kept next total (omega arith)
 
-        -- they are whole, and as they were
-        pub next-within : length after ≡ length us → Within after next total
-        next-within l =
-            let p = v.packs in
-            let a = p.all in
-            let b = p.whole in
-            let m = next-is in
-            let c = v.long in
-            record { reach = o.within z; all = omega arith; whole = omega arith }
+      -- its bytes stand behind the string so far
+      moved-laid : take (w + length bytes) after ≡ take w us ++ bytes
+      moved-laid = rw left-us at o.moved.laid
 
-        next-kept : packs_at after next total ≡ packs_at before next total
-        next-kept =
-            let n = next-is in
-            kept-packs after us next (o.moved z).kept next total (omega arith)
-            ∙ kept-packs us before r v.kept next total (omega arith)
+      -- so does DC
+      size_is : get_or after (w + 5) 0 ≡ size
+      size_is = let l = bytes-long in window-at after (take w us) bytes w front_long moved-laid 5 (omega arith)
 
-        -- its bytes stand behind the string so far
-        moved-laid : take (w + length bytes) after ≡ take w us ++ bytes
-        moved-laid = rw left-us at (o.moved z).laid
+      -- the packet ends before its packs do
+      pub size-within : w + size + 7 ≤ next
+      size-within = let a = v.low in let n = next-is in let l = parts.1 in omega arith
 
-        -- so does DC
-        size_is : get_or after (w + 5) 0 ≡ size
-        size_is = let l = bytes-long in window-at after (take w us) bytes w front_long moved-laid 5 (omega arith)
+      -- the bytes from its place on, as many as it brought
+      bytes-there : (m : ℕ) → m ≤ length bytes → take m (drop w after) ≡ take m bytes
+      bytes-there m h =
+          let a : w ≡ w + 0 = omega arith in
+          let b : m ≡ m - 0 = omega arith in
+          ap (λ (i : ℕ). take m (drop i after)) a ∙ ap (λ (i : ℕ). take i (drop (w + 0) after)) b
+          ∙ window-part after (take w us) bytes w front_long moved-laid 0 m h
+
+      -- d is DC as it is read there
+      module _ {d : ℕ} (e : d ≡ get_or after (w + 5) 0) where
+        -- so it is DC
+        d-is : d ≡ size
+        d-is = e ∙ size_is
 
         -- the packet ends before its packs do
-        pub size-within : w + size + 7 ≤ next
-        size-within = let a = v.low in let n = next-is in let l = parts.1 in omega arith
+        pub size_below : w + d + 7 ≤ next
+        size_below = let a = size-within in let b = d-is in omega arith
 
-        -- the bytes from its place on, as many as it brought
-        bytes-there : (m : ℕ) → m ≤ length bytes → take m (drop w after) ≡ take m bytes
-        bytes-there m h =
-            let a : w ≡ w + 0 = omega arith in
-            let b : m ≡ m - 0 = omega arith in
-            ap (λ (i : ℕ). take m (drop i after)) a ∙ ap (λ (i : ℕ). take i (drop (w + 0) after)) b
-            ∙ window-part after (take w us) bytes w front_long moved-laid 0 m h
+        -- the bytes that are judged are the packet's
+        part-is : take (w + d + 7 - w) (drop w after) ≡ take (size + 7) bytes
+        part-is =
+            let a : w + d + 7 - w ≡ size + 7 = let b = d-is in omega arith in
+            ap (λ (m : ℕ). take m (drop w after)) a ∙ bytes-there (size + 7) bytes-long
 
-        -- d is DC as it is read there
-        module _ {d : ℕ} (e : d ≡ get_or after (w + 5) 0) where
-          -- so it is DC
-          d-is : d ≡ size
-          d-is = e ∙ size_is
+        -- c is what is told of them
+        module _ {c : Result Unit Told} (q : (y : System) → y.last ≡ last → c ≡ judged_as y (take (w + d + 7 - w) (drop w after)) k) where
+          -- it is what is told of the packet's bytes
+          answer_is : (y : System) → y.last ≡ last → c ≡ told_by (eqb (bytes_fault y bytes) 0) (bytes_fault y bytes) k
+          unfolding judged_as
+          answer_is y e =
+              q y e
+              ∙ ap (λ (f : ℕ). told_by (eqb f 0) f k) (ap (bytes_fault y) part-is ∙ prefix-fault y bytes bytes-long)
 
-          -- the packet ends before its packs do
-          pub size_below : w + d + 7 ≤ next
-          size_below = let a = size-within in let b = d-is in omega arith
+          -- and so of the packs
+          left-fault : (y : System) → packs_fault y left ≡ bytes_fault y bytes
+          left-fault y = fault-is y left ∙ ap (λ (b : Bool). cond b (bytes_fault y bytes) 14) left-fits
 
-          -- the bytes that are judged are the packet's
-          part-is : take (w + d + 7 - w) (drop w after) ≡ take (size + 7) bytes
-          part-is =
-              let a : w + d + 7 - w ≡ size + 7 = let b = d-is in omega arith in
-              ap (λ (m : ℕ). take m (drop w after)) a ∙ bytes-there (size + 7) bytes-long
+          -- 15, 16, 20, where the packs are in order: what `refused` answers
+          pub refused-other : (fault : Refused) → Err (told fault) ≡ c → {r : Refused}
+              → r ≡ order_before (order_from false next (packs_at after next total)) fault → (y : System) → y.last ≡ last → {s : List ℕ}
+              → Opens y (packets_of_packs y packs) (Err r) s
+          refused-other fault m {r} g y e {s} =
+              go (order_from false 0 packs) refl
+              (g ∙ ap (λ (i : Option ℕ). order_before i fault) (ap (order_from false next) next-kept ∙ order_is))
+            where
+              go : (x : Option ℕ) → order_from false 0 packs ≡ x → r ≡ order_before x fault → Opens y (packets_of_packs y packs) (Err r) s
+              go None f g = refused-opens (refused-order f y) (ap (λ (i : Refused). Err (told i)) g)
+              go (Some fill) f g =
+                  let a = some-told (bytes_fault y bytes) k (told fault) (m ∙ answer_is y e) in
+                  refused-opens (in_order_lem f y (refused-fault packet-left left-goes _ a.0 y e (left-fault y)))
+                  (ap (λ (i : Refused). Err (told i)) g ∙ ap (λ (t : Told). Err t) a.1)
 
-          -- c is the code of the fault that was found
-          module _ {c : ℕ} (q : (y : System) → y.last ≡ last → c ≡ judged_as y (take (w + d + 7 - w) (drop w after)) k) where
-            -- it is that of the bytes
-            code_is : (y : System) → y.last ≡ last → c ≡ cond (eqb (bytes_fault y bytes) 0) 0 (code_of 0 0 (refused (bytes_fault y bytes) k))
-            unfolding judged_as
-            code_is y e =
-                q y e
-                ∙ ap (λ (f : ℕ). cond (eqb f 0) 0 (code_of 0 0 (refused f k))) (ap (bytes_fault y) part-is ∙ prefix-fault y bytes bytes-long)
+          -- without a fault they are an item's
+          module _ (fine : Ok tt ≡ c) (known : Bytes after) where
+            -- they are bytes, as all are
+            bytes-known : Bytes bytes
+            bytes-known =
+                let p : take (length bytes) (drop w after) ≡ bytes = bytes-there (length bytes) (omega arith) ∙ take-length bytes in
+                subst Bytes p (take-bytes (length bytes) (drop w after) (drop-bytes w after known))
 
-            -- and so that of the packs
-            left-fault : (y : System) → packs_fault y left ≡ bytes_fault y bytes
-            left-fault y = fault-is y left ∙ ap (λ (b : Bool). cond b (bytes_fault y bytes) 14) left-fits
+            -- the item that they are
+            abbrev item : Item
+            item = item_of 0 bytes
 
-            -- 15, 16, 20, where the packs are in order: what `refused` answers
-            pub refused-other : (c ≡ 0 → ⊥) → {r : ℕ}
-                → r ≡ cond (eqb (order_from false next (packs_at after next total)) 1) (code_of 0 0 (refused 13 0)) c
-                → (y : System) → y.last ≡ last → {s : List ℕ} → Opens y (packets_of_packs y packs) r s
-            refused-other m {r} g y e {s} =
-                go (eqb (order_from false 0 packs) 1) refl
-                (g ∙ ap (λ (i : ℕ). cond (eqb i 1) (code_of 0 0 (refused 13 0)) c) (ap (order_from false next) next-kept ∙ order_is))
-              where
-                go : (t : Bool) → eqb (order_from false 0 packs) 1 ≡ t → r ≡ cond t (code_of 0 0 (refused 13 0)) c
-                    → Opens y (packets_of_packs y packs) r s
-                go true x g = coded-opens (refused-order (eqb-true (order_from false 0 packs) 1 x) y) g
-                go false x g =
-                    let o = eqb-false (order_from false 0 packs) 1 x in
-                    let f = code-some (bytes_fault y bytes) k (code_is y e) m in
-                    coded-opens (in_order_lem o y (refused-fault packet-left left-goes _ f.0 y e (left-fault y))) (g ∙ f.1)
+            -- its bytes stand in front, and it is good
+            item-is : (y : System) → y.last ≡ last → (take (size + 7) bytes ≡ danc item) × Good y item
+            item-is y f =
+                let l = bytes-laid y bytes 0 (omega arith) bytes-known bytes-long (none-told (bytes_fault y bytes) k (fine ∙ answer_is y f)) in
+                let a : length (drop 6 bytes) ≡ length bytes - 6 = length-drop 6 bytes in
+                let b = bytes-long in
+                let c : length (take size (drop 6 bytes)) ≡ size = length-take-le size (drop 6 bytes) (omega arith) in
+                let m : length (danc item) ≡ size + 7 = danc-length item ∙ ap (λ (j : ℕ). j + 7) c in
+                (ap (take (size + 7)) l.0 ∙ take_at (danc item) (drop (size + 7) bytes) (size + 7) m, l.1)
 
-            -- without a fault they are an item's
-            module _ (fine : c ≡ 0) (known : Bytes after) where
-              -- they are bytes, as all are
-              bytes-known : Bytes bytes
-              bytes-known =
-                  let p : take (length bytes) (drop w after) ≡ bytes = bytes-there (length bytes) (omega arith) ∙ take-length bytes in
-                  subst Bytes p (take-bytes (length bytes) (drop w after) (drop-bytes w after known))
+            -- it is one more of the packets done
+            done_more : (y : System) → y.last ≡ last → Done y before after total next (w + d + 7) (k + 1)
+            done_more y f =
+                let was = v.done y f in
+                let x = item-is y f in
+                let i : w + d + 7 ≡ w + (size + 7) = let j = d-is in omega arith in
+                let m = was.many in
+                let c = length-append was.items (item ∷ []) in
+                let none_found : packs_fault y left ≡ 0 = left-fault y ∙ none-told (bytes_fault y bytes) k (fine ∙ answer_is y f) in
+                record {
+                  items = was.items ++ item ∷ [];
+                  good = all_append (Good y) was.items (item ∷ []) was.good (one x.1 none);
+                  many = omega arith;
+                  laid =
+                      ap (λ (m : ℕ). take m after) i ∙ window-front after (take w us) bytes w front_long moved-laid (size + 7) bytes-long
+                      ∙ ap₂ (λ (a b : List ℕ). a ++ b) was.laid x.0
+                      ∙ sym (string-later was.items item);
+                  rest =
+                      whole_is y f _
+                      (ap (λ (m : ℕ). packets_in (pack_row y) m k left) (more packet-left left-goes)
+                      ∙ packs-goes y left k (limit - (k + 1)) left-goes none_found)
+                      ∙ also-later was.items item _
+                      ∙ ap (also_all (packets_of (was.items ++ item ∷ [])))
+                      (ap₂ (λ (m : ℕ) (s : List Five). packets_in (pack_row y) (limit - (k + 1)) m s) (sym (add-one k)) after_is);
+                }
 
-              -- the item that they are
-              abbrev item : Item
-              item = item_of 0 bytes
-
-              -- its bytes stand in front, and it is good
-              item-is : (y : System) → y.last ≡ last → (take (size + 7) bytes ≡ danc item) × Good y item
-              item-is y f =
-                  let l = bytes-laid y bytes 0 (omega arith) bytes-known bytes-long (code-none (bytes_fault y bytes) k (code_is y f) fine) in
-                  let a : length (drop 6 bytes) ≡ length bytes - 6 = length-drop 6 bytes in
-                  let b = bytes-long in
-                  let c : length (take size (drop 6 bytes)) ≡ size = length-take-le size (drop 6 bytes) (omega arith) in
-                  let m : length (danc item) ≡ size + 7 = danc-length item ∙ ap (λ (j : ℕ). j + 7) c in
-                  (ap (take (size + 7)) l.0 ∙ take_at (danc item) (drop (size + 7) bytes) (size + 7) m, l.1)
-
-              -- it is one more of the packets done
-              done_more : (y : System) → y.last ≡ last → Done y before after total next (w + d + 7) (k + 1)
-              done_more y f =
-                  let was = v.done y f in
-                  let x = item-is y f in
-                  let i : w + d + 7 ≡ w + (size + 7) = let j = d-is in omega arith in
-                  let m = was.many in
-                  let c = length-append was.items (item ∷ []) in
-                  let none_found : packs_fault y left ≡ 0 = left-fault y ∙ code-none (bytes_fault y bytes) k (code_is y f) fine in
-                  record {
-                    items = was.items ++ item ∷ [];
-                    good = all_append (Good y) was.items (item ∷ []) was.good (one x.1 none);
-                    many = omega arith;
-                    laid =
-                        ap (λ (m : ℕ). take m after) i ∙ window-front after (take w us) bytes w front_long moved-laid (size + 7) bytes-long
-                        ∙ ap₂ (λ (a b : List ℕ). a ++ b) was.laid x.0
-                        ∙ sym (string-later was.items item);
-                    rest =
-                        whole_is y f _
-                        (ap (λ (m : ℕ). packets_in (pack_row y) m k left) (more packet-left left-goes)
-                        ∙ packs-goes y left k (limit - (k + 1)) left-goes none_found)
-                        ∙ also-later was.items item _
-                        ∙ ap (also_all (packets_of (was.items ++ item ∷ [])))
-                        (ap₂ (λ (m : ℕ) (s : List Five). packets_in (pack_row y) (limit - (k + 1)) m s) (sym (add-one k)) after_is);
-                  }
-
-              -- and the next packet may be opened
-              pub opening-more : length after ≡ length us → Opening last before after total next (w + d + 7) (k + 1)
-              opening-more l =
-                  let a = v.few in
-                  let p = v.packs in
-                  let b = p.whole in
-                  let m = next-is in
-                  let c = v.place in
-                  let f = parts.1 in
-                  record {
-                    packs = record { reach = o.within z; all = p.all; whole = omega arith };
-                    place = omega arith;
-                    low = size_below;
-                    few = omega arith;
-                    order = order_is;
-                    size = v.size;
-                    long = l ∙ v.long;
-                    kept = (o.moved z).kept ∙ kept-later us before r v.kept next (omega arith);
-                    done = done_more;
-                  }
+            -- and the next packet may be opened
+            pub opening-more : length after ≡ length us → Opening last before after total next (w + d + 7) (k + 1)
+            opening-more l =
+                let a = v.few in
+                let p = v.packs in
+                let b = p.whole in
+                let m = next-is in
+                let f = parts.1 in
+                record {
+                  packs = record { reach = o.within; all = p.all; whole = omega arith };
+                  low = size_below;
+                  few = omega arith;
+                  order = order_is;
+                  size = v.size;
+                  long = l ∙ v.long;
+                  kept = o.moved.kept ∙ kept-later us before r v.kept next (omega arith);
+                  done = done_more;
+                }
 
 -- ---- all of it
 
@@ -614,7 +610,7 @@ module _ (us : List ℕ) (total : ℕ) where
           record { reach = omega arith; all = leb-true total (length us) q.0; whole = omega arith }
 
       -- then their packets are the outcome
-      pub opens-all : {y : System} {r : ℕ} {after : List ℕ} → Opens y (packets_of_packs y (packs_at us 0 total)) r after
+      pub opens-all : {y : System} {r : Result Validated Refused} {after : List ℕ} → Opens y (packets_of_packs y (packs_at us 0 total)) r after
           → Opens y (packets_of_fives y us total) r after
       unfolding packets_of_fives
       opens-all {y} o = rw (sym w ∙ e, sym packs-all) o

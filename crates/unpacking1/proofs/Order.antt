@@ -7,6 +7,8 @@ use Prim.Native.Nat.{ℕ, suc, ◌+◌, ◌-◌, ◌*◌, ◌%◌, ◌≤◌, �
 use mathlib.Core.Path.{◌≡◌, refl, sym, ap, ◌∙◌}
 use mathlib.Core.Bool.{Bool, true, false, cond, ◌||◌}
 use mathlib.Core.List.{List, [], ◌∷◌}
+use Rattle.std.specs.Prelude.{Option, None, Some}
+use Rattle.std.specs.Bool.{then_some}
 use native.Mathlib.Omega.{arith}
 use lib.Dec.{eqb}
 use lib.ListN.{length, get_or, take, drop}
@@ -20,50 +22,55 @@ use Rattle.unpacking1.proofs.Packs.{pack_at, packs-none, packs-flat, first-pack,
 
 -- ---- one pack more in front
 
-module _ (p : Five) (ps : List Five) (at r : ℕ) where
+module _ (p : Five) (ps : List Five) (at : ℕ) where
   -- fill begins at the same place
-  one_more : (b : Bool) → r ≡ cond b (at + 5 + 5 * used ps) 1 → r ≡ cond b (at + 5 * suc (used ps)) 1
-  one_more true e = omega arith
-  one_more false e = e
+  one_more : (b : Bool) → cond b (Some (at + 5 * suc (used ps))) None ≡ cond b (Some (at + 5 + 5 * used ps)) None
+  one_more b = let e : at + 5 * suc (used ps) ≡ at + 5 + 5 * used ps = omega arith in ap (λ (n : ℕ). cond b (Some n) None) e
 
   -- a carrier, which may stand anywhere
-  on-carrier : p.b0 ≡ 0xE2 → r ≡ order_from false (at + 5) ps → r ≡ order_from false at (p ∷ ps)
+  on-carrier : p.b0 ≡ 0xE2 → order_from false at (p ∷ ps) ≡ order_from false (at + 5) ps
   unfolding order_from in_order
-  on-carrier e q = rw e (one_more (in_order false ps) q)
+  on-carrier e = rw e (one_more (in_order false ps))
 
   -- a starter, behind which a carrier has to follow
-  on-starter : p.b0 ≡ 0xE1 → r ≡ order_from true (at + 5) ps → r ≡ order_from false at (p ∷ ps)
+  on-starter : p.b0 ≡ 0xE1 → order_from false at (p ∷ ps) ≡ order_from true (at + 5) ps
   unfolding order_from in_order
-  on-starter e q = rw e (one_more (in_order true ps) q)
+  on-starter e = rw e (one_more (in_order true ps))
 
   -- that carrier
-  after-starter : p.b0 ≡ 0xE2 → r ≡ order_from false (at + 5) ps → r ≡ order_from true at (p ∷ ps)
+  after-starter : p.b0 ≡ 0xE2 → order_from true at (p ∷ ps) ≡ order_from false (at + 5) ps
   unfolding order_from in_order
-  after-starter e q = rw e (one_more (in_order false ps) q)
+  after-starter e = rw e (one_more (in_order false ps))
 
   -- neither a carrier nor a starter: all is fill from here on, or the order is wrong
-  on-other : (p.b0 ≡ 0xE2 → ⊥) → (p.b0 ≡ 0xE1 → ⊥) → order_from false at (p ∷ ps) ≡ cond (all_is 0xFF (flat (p ∷ ps))) (at + 5 * 0) 1
+  on-other : (p.b0 ≡ 0xE2 → ⊥) → (p.b0 ≡ 0xE1 → ⊥) → order_from false at (p ∷ ps) ≡ then_some (all_is 0xFF (flat (p ∷ ps))) at
   unfolding order_from in_order
-  on-other n m = rw (ne_eqb p.b0 0xE1 m, ne_eqb p.b0 0xE2 n)
+  on-other n m =
+      let z : at + 5 * 0 ≡ at = omega arith in
+      rw (ne_eqb p.b0 0xE1 m, ne_eqb p.b0 0xE2 n, z) (go (all_is 0xFF (flat (p ∷ ps))))
+    where
+      go : (b : Bool) → cond b (Some at) None ≡ then_some b at
+      go true = refl
+      go false = refl
 
   -- or none
-  after-other : (p.b0 ≡ 0xE2 → ⊥) → 1 ≡ order_from true at (p ∷ ps)
+  after-other : (p.b0 ≡ 0xE2 → ⊥) → order_from true at (p ∷ ps) ≡ None
   unfolding order_from in_order
   after-other n = rw (ne_eqb p.b0 0xE2 n)
 
 -- ---- what each reader gives back
 
 -- no pack is left: behind a starter one is missing
-module _ (us : List ℕ) (at total : ℕ) (e : at ≡ total) where
+module _ (us : List ℕ) (at total : ℕ) (e : total ≤ at) where
   -- fill begins here
-  pub order-end : at ≡ order_from false at (packs_at us at total)
+  pub order-end : order_from false at (packs_at us at total) ≡ Some at
   unfolding order_from in_order
-  order-end = rw (packs-none us at total (omega arith)) (omega arith)
+  order-end = let z : at + 5 * 0 ≡ at = omega arith in rw (packs-none us at total e) (ap (λ (n : ℕ). Some n) z)
 
   -- the order is wrong
-  pub order-short : 1 ≡ order_from true at (packs_at us at total)
+  pub order-short : order_from true at (packs_at us at total) ≡ None
   unfolding order_from in_order
-  order-short = rw (packs-none us at total (omega arith))
+  order-short = rw (packs-none us at total e)
 
 -- a pack is left
 module _ {us : List ℕ} {at total : ℕ} (w : Within us at total) (h : at < total) where
@@ -72,37 +79,29 @@ module _ {us : List ℕ} {at total : ℕ} (w : Within us at total) (h : at < tot
   behind = packs_at us (at + 5) total
 
   -- it is a carrier
-  pub order-carrier : {r : ℕ} → get_or us at 0 ≡ 0xE2 → r ≡ order_from false (at + 5) behind → r ≡ order_from false at (packs_at us at total)
-  order-carrier {r} e q = rw (first-pack w h) (on-carrier (pack_at us at) behind at r e q)
+  pub order-carrier : get_or us at 0 ≡ 0xE2 → order_from false at (packs_at us at total) ≡ order_from false (at + 5) behind
+  order-carrier e = rw (first-pack w h) (on-carrier (pack_at us at) behind at e)
 
   -- it is a starter
-  pub order-starter : {r : ℕ} → get_or us at 0 ≡ 0xE1 → r ≡ order_from true (at + 5) behind → r ≡ order_from false at (packs_at us at total)
-  order-starter {r} e q = rw (first-pack w h) (on-starter (pack_at us at) behind at r e q)
+  pub order-starter : get_or us at 0 ≡ 0xE1 → order_from false at (packs_at us at total) ≡ order_from true (at + 5) behind
+  order-starter e = rw (first-pack w h) (on-starter (pack_at us at) behind at e)
 
   -- behind a starter
-  pub order-second : {r : ℕ} → get_or us at 0 ≡ 0xE2 → r ≡ order_from false (at + 5) behind → r ≡ order_from true at (packs_at us at total)
-  order-second {r} e q = rw (first-pack w h) (after-starter (pack_at us at) behind at r e q)
+  pub order-second : get_or us at 0 ≡ 0xE2 → order_from true at (packs_at us at total) ≡ order_from false (at + 5) behind
+  order-second e = rw (first-pack w h) (after-starter (pack_at us at) behind at e)
 
   -- anything else behind a starter
-  pub order-no-carrier : (get_or us at 0 ≡ 0xE2 → ⊥) → 1 ≡ order_from true at (packs_at us at total)
-  order-no-carrier n = rw (first-pack w h) (after-other (pack_at us at) behind at 1 n)
+  pub order-no-carrier : (get_or us at 0 ≡ 0xE2 → ⊥) → order_from true at (packs_at us at total) ≡ None
+  order-no-carrier n = rw (first-pack w h) (after-other (pack_at us at) behind at n)
 
-  module _ (n : get_or us at 0 ≡ 0xE2 → ⊥) (o : get_or us at 0 ≡ 0xE1 → ⊥) where
-    -- neither: the bytes left decide
-    rest-is : order_from false at (packs_at us at total) ≡ cond (all_is 0xFF (take (total - at) (drop at us))) (at + 5 * 0) 1
-    rest-is =
-        let k = first-pack w h in
-        ap (order_from false at) k
-        ∙ on-other (pack_at us at) behind at 1 n o
-        ∙ ap (λ (s : List ℕ). cond (all_is 0xFF s) (at + 5 * 0) 1) (ap flat (sym k) ∙ packs-flat w)
-
-    -- all are FFh
-    pub order-fill : all_is 0xFF (take (total - at) (drop at us)) ≡ true → at ≡ order_from false at (packs_at us at total)
-    order-fill e = let z : at ≡ at + 5 * 0 = omega arith in z ∙ sym (rest-is ∙ ap (λ (b : Bool). cond b (at + 5 * 0) 1) e)
-
-    -- one is not
-    pub order-wrong : all_is 0xFF (take (total - at) (drop at us)) ≡ false → 1 ≡ order_from false at (packs_at us at total)
-    order-wrong e = sym (rest-is ∙ ap (λ (b : Bool). cond b (at + 5 * 0) 1) e)
+  -- neither: the bytes left decide
+  pub order-rest : (get_or us at 0 ≡ 0xE2 → ⊥) → (get_or us at 0 ≡ 0xE1 → ⊥)
+      → order_from false at (packs_at us at total) ≡ then_some (all_is 0xFF (take (total - at) (drop at us))) at
+  order-rest n o =
+      let k = first-pack w h in
+      ap (order_from false at) k
+      ∙ on-other (pack_at us at) behind at n o
+      ∙ ap (λ (s : List ℕ). then_some (all_is 0xFF s) at) (ap flat (sym k) ∙ packs-flat w)
 
 -- ---- carriers passed one by one
 
@@ -115,7 +114,7 @@ pub passed-more : {us : List ℕ} {at total end : ℕ} → SameOrder us at total
     → SameOrder us at total (end + 5)
 passed-more v h e =
     let a = v.reach in
-    record { reach = omega arith; packs = behind-first v.packs h; same = order-carrier v.packs h e refl ∙ v.same }
+    record { reach = omega arith; packs = behind-first v.packs h; same = sym (order-carrier v.packs h e) ∙ v.same }
 
 -- ---- a packet passed
 
@@ -126,14 +125,14 @@ module _ {us : List ℕ} {at total : ℕ} (w : Within us at total) (h : at + 5 <
   within-behind = behind-first w (omega arith)
 
   -- which is no carrier
-  pub order-alone : (get_or us (at + 5) 0 ≡ 0xE2 → ⊥) → order_from false at (packs_at us at total) ≡ 1
-  order-alone n = sym (order-starter w (omega arith) s (order-no-carrier within-behind h n))
+  pub order-alone : (get_or us (at + 5) 0 ≡ 0xE2 → ⊥) → order_from false at (packs_at us at total) ≡ None
+  order-alone n = order-starter w (omega arith) s ∙ order-no-carrier within-behind h n
 
   -- which is one: its carriers are passed as well
   pub order-packet : {f : ℕ} → get_or us (at + 5) 0 ≡ 0xE2 → SameOrder us (at + 5) total f
       → order_from false f (packs_at us f total) ≡ order_from false at (packs_at us at total)
   order-packet c v =
-      v.same ∙ sym (order-carrier within-behind h c refl) ∙ order-starter w (omega arith) s (order-second within-behind h c refl)
+      v.same ∙ order-carrier within-behind h c ∙ sym (order-starter w (omega arith) s ∙ order-second within-behind h c)
 
 -- ---- starters and carriers before fill
 
@@ -189,22 +188,21 @@ order-ends false (p ∷ ps) o =
 
 -- ---- what the answer says
 
--- of packs that stand at a place of a pack
-module _ (at : ℕ) (m : at % 5 ≡ 0) (ps : List Five) where
-  -- 1 is given only where the order is wrong
-  pub order-one : order_from false at ps ≡ 1 → in_order false ps ≡ false
+module _ (at : ℕ) (ps : List Five) where
+  -- none: the order is wrong
+  pub order-none : order_from false at ps ≡ None → in_order false ps ≡ false
   unfolding order_from
-  order-one e = go (in_order false ps) e
+  order-none e = go (in_order false ps) e
     where
-      go : (t : Bool) → cond t (at + 5 * used ps) 1 ≡ 1 → t ≡ false
-      go true e = absurd (omega arith)
+      go : (t : Bool) → cond t (Some (at + 5 * used ps)) None ≡ None → t ≡ false
+      go true e = cc
       go false e = refl
 
   -- any other answer is where fill begins
-  pub order-place : (order_from false at ps ≡ 1 → ⊥) → (in_order false ps ≡ true) × (order_from false at ps ≡ at + 5 * used ps)
+  pub order-some : {fill : ℕ} → order_from false at ps ≡ Some fill → (in_order false ps ≡ true) × (fill ≡ at + 5 * used ps)
   unfolding order_from
-  order-place n = go (in_order false ps) n
+  order-some {fill} e = go (in_order false ps) e
     where
-      go : (t : Bool) → (cond t (at + 5 * used ps) 1 ≡ 1 → ⊥) → (t ≡ true) × (cond t (at + 5 * used ps) 1 ≡ at + 5 * used ps)
-      go true n = (refl, refl)
-      go false n = absurd (n refl)
+      go : (t : Bool) → cond t (Some (at + 5 * used ps)) None ≡ Some fill → (t ≡ true) × (fill ≡ at + 5 * used ps)
+      go true e = (refl, cc)
+      go false e = absurd cc

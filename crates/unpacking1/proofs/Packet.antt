@@ -1,6 +1,6 @@
 -- The packs of one packet: 14, and its bytes moved down (001, 4.1.1, figures 4 and 7; document 01, refusal 14).
 --
--- In order: carriers in front; where the packs of a packet end; carriers opened; unused bytes; a packet opened.
+-- In order: carriers in front; where the packs of a packet end; carriers opened; a packet opened.
 -- Assumes nothing.
 use Prim.Native.Nat.{ℕ, zero, suc, ◌+◌, ◌-◌, ◌*◌, ◌/◌, ◌≤◌, ◌<◌}
 use mathlib.Core.Path.{◌≡◌, refl, sym, ap, ◌∙◌, subst}
@@ -17,7 +17,10 @@ use Rattle.rules.specs.Packing1.{Five, carriers_for}
 use Rattle.rules.specs.Reading.{lead, carried, front_bytes, carriers_fit}
 use Rattle.rules.proofs.Basics.{never, both, second-false, sets-front, sets_behind}
 use Rattle.rules.proofs.Packs.{lead-within}
-use Rattle.unpacking1.specs.Open.{packs_at, Within, order_from, SameOrder, fits, PacksEnd, all_carriers, Moved, CarriersOpened, PacketOpened}
+use Rattle.rules.specs.declared.Refusal.{Refusal}
+use Rattle.rules.specs.declared.Refusal.TheVariants.{Packs}
+use Rattle.unpacking1.specs.Open.{packs_at, Within, order_from, SameOrder, fits, EndsAt, all_carriers, Moved, CarriersOpened}
+use Rattle.unpacking1.specs.Open.{order_first, MovedTo, NotMoved}
 use Rattle.unpacking1.proofs.Packs.{kept-later, kept_at, kept-packs, window-part, pack_at, packs-cons, packs-none, packs-drop, packs-take}
 use Rattle.unpacking1.proofs.Packs.{packs-length, first-pack, behind-first}
 use Rattle.unpacking1.proofs.Order.{passed_none, passed-more, order-alone, order-packet}
@@ -81,29 +84,18 @@ fit-not p q qs n = go (eqb q.b0 0xE2) n
     go true n = rw (ne_eqb (suc (lead qs)) (carriers_for q.b3) n)
     go false n = refl
 
--- it does not pass 14
-ends-not : {us : List ℕ} {at total : ℕ} → fits (packs_at us at total) ≡ false → PacksEnd us at total 0
-ends-not f =
-    record {
-      shut = λ z. f;
-      starts = λ z. absurd (z refl);
-      place = λ z. absurd (z refl);
-      within = omega arith;
-      ends = λ z. absurd (z refl);
-    }
-
 -- a law for each way through `packs_end`
 module _ {us : List ℕ} {at total : ℕ} (w : Within us at total) where
   -- the pack is no starter
-  pub no-starter : at < total → (get_or us at 0 ≡ 0xE1 → ⊥) → PacksEnd us at total 0
-  no-starter h n = ends-not (rw (first-pack w h, ne_eqb (get_or us at 0) 0xE1 n))
+  pub no-starter : at < total → (get_or us at 0 ≡ 0xE1 → ⊥) → fits (packs_at us at total) ≡ false
+  no-starter h n = rw (first-pack w h, ne_eqb (get_or us at 0) 0xE1 n)
 
   -- no pack is behind it
-  pub no-carrier : at < total → total < at + 10 → PacksEnd us at total 0
+  pub no-carrier : at < total → total < at + 10 → fits (packs_at us at total) ≡ false
   no-carrier h l =
       let m = w.whole in
       let last : packs_at us (at + 5) total ≡ [] = packs-none us (at + 5) total (omega arith) in
-      ends-not (rw (first-pack w h, last) (second-false (eqb (get_or us at 0) 0xE1) false refl))
+      rw (first-pack w h, last) (second-false (eqb (get_or us at 0) 0xE1) false refl)
 
   -- there is, with DC in it: d
   module _ {d : ℕ} (e : d ≡ get_or us (at + 8) 0) (h : at + 10 ≤ total) where
@@ -131,10 +123,10 @@ module _ {us : List ℕ} {at total : ℕ} (w : Within us at total) where
         (λ z. n (ap lead c ∙ z ∙ ap carriers_for (sym k)))))
 
     -- there is no room for as many
-    pub too_few : total < stop → PacksEnd us at total 0
+    pub too_few : total < stop → fits (packs_at us at total) ≡ false
     too_few l =
         let k = packs-length within-behind in
-        ends-not (not-as-many (λ z. let v = lead-within behind in omega arith))
+        not-as-many (λ z. let v = lead-within behind in omega arith)
 
     -- the carriers that DC needs have room
     module _ (l : stop ≤ total) where
@@ -149,32 +141,25 @@ module _ {us : List ℕ} {at total : ℕ} (w : Within us at total) where
           packs-drop (carriers_for d) us (at + 5) total (omega arith) w.all ∙ ap (λ (a : ℕ). packs_at us a total) k
 
       -- one more carrier stands there
-      pub too_many : stop < total → get_or us stop 0 ≡ 0xE2 → PacksEnd us at total 0
+      pub too_many : stop < total → get_or us stop 0 ≡ 0xE2 → fits (packs_at us at total) ≡ false
       too_many m t =
-          ends-not
-          (not-as-many
+          not-as-many
           (λ z. lead-some within-stop m t
-          (ap lead (sym behind-carriers ∙ ap (λ (n : ℕ). drop n behind) (sym z)) ∙ lead-then behind)))
+          (ap lead (sym behind-carriers ∙ ap (λ (n : ℕ). drop n behind) (sym z)) ∙ lead-then behind))
 
       -- a starter, and no carrier behind them
       module _ (s : get_or us at 0 ≡ 0xE1) where
         -- the packet's packs end there
-        ends_at : lead (packs_at us stop total) ≡ 0 → PacksEnd us at total stop
+        ends_at : lead (packs_at us stop total) ≡ 0 → EndsAt us at total stop
         ends_at b =
-            record {
-              shut = λ z. absurd (omega arith);
-              starts = λ z. s;
-              place = λ z. ap (λ (v : ℕ). at + 10 + (v + 3) / 4 * 5) e;
-              within = l;
-              ends = λ z. b;
-            }
+            record { starts = s; place = ap (λ (v : ℕ). at + 10 + (v + 3) / 4 * 5) e; within = l; ends = b }
 
         -- another pack stands there
-        pub ends-before : stop < total → (get_or us stop 0 ≡ 0xE2 → ⊥) → PacksEnd us at total stop
+        pub ends-before : stop < total → (get_or us stop 0 ≡ 0xE2 → ⊥) → EndsAt us at total stop
         ends-before m n = ends_at (lead-none within-stop m n)
 
         -- no pack stands there
-        pub ends_last : total ≤ stop → PacksEnd us at total stop
+        pub ends_last : total ≤ stop → EndsAt us at total stop
         ends_last m = ends_at (ap lead (packs-none us stop total m))
 
 -- ---- carriers opened
@@ -328,38 +313,6 @@ module _ {before us : List ℕ} {from stop to f o : ℕ} (v : Carrying before us
               };
         }
 
--- ---- unused bytes
-
--- no byte is left
-pub fill_done : (us : List ℕ) (end full : ℕ) → full ≤ end → true ≡ all_is 0xFF (take (full - end) (drop end us))
-fill_done us end full h = let e : full - end ≡ 0 = omega arith in rw e
-
--- a byte is left, and `next` is behind it
-module _ (us : List ℕ) (end next full : ℕ) (n : next ≡ end + 1) (l : full ≤ length us) (h : end < full) where
-  fill_more : all_is 0xFF (take (full - end) (drop end us)) ≡ (eqb (get_or us end 0) 0xFF && all_is 0xFF (take (full - next) (drop next us)))
-  fill_more =
-      let k : full - end ≡ suc (full - next) = omega arith in
-      rw (k, n, add-one end, drop-cons us end 0 (omega arith))
-
-  -- it is FFh: the others decide
-  pub fill-goes : {t : Bool} → get_or us end 0 ≡ 0xFF → t ≡ all_is 0xFF (take (full - next) (drop next us))
-      → t ≡ all_is 0xFF (take (full - end) (drop end us))
-  fill-goes e q = q ∙ sym (fill_more ∙ (rw e refl))
-
-  -- it is not
-  pub fill_stops : (get_or us end 0 ≡ 0xFF → ⊥) → false ≡ all_is 0xFF (take (full - end) (drop end us))
-  fill_stops m = sym (fill_more ∙ (rw (ne_eqb (get_or us end 0) 0xFF m) refl))
-
-  -- it is the last
-  pub fill-last : full ≡ next → eqb (get_or us end 0) 0xFF ≡ all_is 0xFF (take (full - end) (drop end us))
-  fill-last e =
-      go (eqb (get_or us end 0) 0xFF)
-      ∙ sym (fill_more ∙ ap (λ (b : Bool). eqb (get_or us end 0) 0xFF && b) (sym (fill_done us next full (omega arith))))
-    where
-      go : (b : Bool) → b ≡ (b && true)
-      go true = refl
-      go false = refl
-
 -- ---- a packet opened
 
 -- the header bytes in the starter at a place
@@ -392,37 +345,8 @@ fits-is : (p : Five) (ps : List Five) (f : List ℕ) (d : ℕ) → p.b0 ≡ 0xE1
     → fits (p ∷ ps) ≡ all_is 0xFF (drop (d + 7) f)
 fits-is p ps f d b e k l = rw (b, e, k, l, eq-eqb (carriers_for d) (carriers_for d) refl)
 
--- it does not pass 14: then the order of the packs from it on decides, which q tells
-pub packet-not : {us after : List ℕ} {at total to q : ℕ} → fits (packs_at us at total) ≡ false
-    → q ≡ cond (eqb (order_from false at (packs_at us at total)) 1) 1 0 → PacketOpened us after at total to q
-packet-not {us} {after} {at} {total} {to} {q} f e = go (eqb (order_from false at (packs_at us at total)) 1) refl e
-  where
-    go : (t : Bool) → eqb (order_from false at (packs_at us at total)) 1 ≡ t → q ≡ cond t 1 0 → PacketOpened us after at total to q
-    go true o e =
-        record {
-          shut = λ z. absurd (omega arith);
-          ordered = λ z. absurd (omega arith);
-          wrong = λ z. eqb-true (order_from false at (packs_at us at total)) 1 o;
-          passes = λ h. absurd (omega arith);
-          place = λ h. absurd (omega arith);
-          within = λ h. absurd (omega arith);
-          same = λ h. absurd (omega arith);
-          moved = λ h. absurd (omega arith);
-        }
-    go false o e =
-        record {
-          shut = λ z. f;
-          ordered = λ z. eqb-false (order_from false at (packs_at us at total)) 1 o;
-          wrong = λ z. absurd (omega arith);
-          passes = λ h. absurd (omega arith);
-          place = λ h. absurd (omega arith);
-          within = λ h. absurd (omega arith);
-          same = λ h. absurd (omega arith);
-          moved = λ h. absurd (omega arith);
-        }
-
 -- its packs end at `stop`
-module _ {us : List ℕ} {at total stop : ℕ} (w : Within us at total) (e : PacksEnd us at total stop) (z : stop ≡ 0 → ⊥) where
+module _ {us : List ℕ} {at total stop : ℕ} (w : Within us at total) (e : EndsAt us at total stop) where
   -- DC
   abbrev dc : ℕ
   dc = get_or us (at + 8) 0
@@ -441,7 +365,7 @@ module _ {us : List ℕ} {at total stop : ℕ} (w : Within us at total) (e : Pac
 
   -- where the packs end, by DC
   pub stop_is : stop ≡ at + 5 + 5 * need
-  stop_is = let p = e.place z in omega arith
+  stop_is = let p = e.place in omega arith
 
   -- that is within the bytes
   pub stop-within : stop ≤ length us
@@ -507,7 +431,7 @@ module _ {us : List ℕ} {at total stop : ℕ} (w : Within us at total) (e : Pac
         let p = stop_is in
         let i = e.within in
         let k = packs-length within-ps in
-        lead_is need ps (omega arith) (ap all_carriers take-is ∙ a) (ap lead drop-is ∙ e.ends z)
+        lead_is need ps (omega arith) (ap all_carriers take-is ∙ a) (ap lead drop-is ∙ e.ends)
 
     -- so the bytes are the packet's
     front_bytes_lem : front_bytes (packs_at us at total) ≡ front
@@ -518,7 +442,7 @@ module _ {us : List ℕ} {at total stop : ℕ} (w : Within us at total) (e : Pac
 
     -- and 14 is the test of those past its end
     fits-front : fits (packs_at us at total) ≡ all_is 0xFF (drop (dc + 7) front)
-    fits-front = ap fits starter-is ∙ fits-is (pack_at us at) ps front dc (e.starts z) (ap front_bytes (sym starter-is) ∙ front_bytes_lem) dc-is many
+    fits-front = ap fits starter-is ∙ fits-is (pack_at us at) ps front dc (e.starts) (ap front_bytes (sym starter-is) ∙ front_bytes_lem) dc-is many
 
   -- the header bytes were stored
   module _ {to : ℕ} (low : to ≤ at) where
@@ -589,12 +513,12 @@ module _ {us : List ℕ} {at total stop : ℕ} (w : Within us at total) (e : Pac
       rest-order : at + 5 < r → order_from false r (packs_at after r total) ≡ order_from false at (packs_at us at total)
       rest-order h =
           let c : get_or us (at + 5) 0 ≡ 0xE2 = sym (kept_at (headed us at to) us (at + 5) head-behind) ∙ v.first h in
-          ap (order_from false r) rest-there ∙ order-packet w second-there (e.starts z) c same-us
+          ap (order_from false r) rest-there ∙ order-packet w second-there (e.starts) c same-us
 
-      -- one is no carrier: what `carriers_wrong` says
-      pub opened-shut : {q : ℕ} → (r ≡ stop → ⊥) → q ≡ cond (eqb r (at + 5)) 1 (cond (eqb (order_from false r (packs_at after r total)) 1) 1 0)
-          → PacketOpened us after at total to q
-      opened-shut {q} n f = go (eqb r (at + 5)) refl f
+      -- one is no carrier: what `carriers_refusal` says
+      pub opened-shut : {q : Refusal} → (r ≡ stop → ⊥) → q ≡ cond (eqb r (at + 5)) Packs (order_first (order_from false r (packs_at after r total)))
+          → NotMoved us at total q
+      opened-shut {q} n f = record { shut = shut; order = f ∙ go (eqb r (at + 5)) refl }
         where
           less : r < stop
           less = let i = v.within in omega arith
@@ -602,19 +526,18 @@ module _ {us : List ℕ} {at total stop : ℕ} (w : Within us at total) (e : Pac
           shut : fits (packs_at us at total) ≡ false
           shut = carriers-shut (ap all_carriers (sym cs-kept) ∙ v.other less)
 
-          go : (t : Bool) → eqb r (at + 5) ≡ t → q ≡ cond t 1 (cond (eqb (order_from false r (packs_at after r total)) 1) 1 0)
-              → PacketOpened us after at total to q
-          go true b f =
+          go : (t : Bool) → eqb r (at + 5) ≡ t
+              → cond t Packs (order_first (order_from false r (packs_at after r total))) ≡ order_first (order_from false at (packs_at us at total))
+          go true b =
               let k : r ≡ at + 5 = eqb-true r (at + 5) b in
               let no : get_or us (at + 5) 0 ≡ 0xE2 → ⊥ =
               λ c. v.here less
               (ap (λ (i : ℕ). get_or (headed us at to) i 0) k ∙ kept_at (headed us at to) us (at + 5) head-behind ∙ c) in
-              let o = order-alone w second-there (e.starts z) no in
-              packet-not shut (f ∙ sym (ap (λ (i : ℕ). cond (eqb i 1) 1 0) o))
-          go false b f =
+              sym (ap order_first (order-alone w second-there e.starts no))
+          go false b =
               let k = eqb-false r (at + 5) b in
               let h : at + 5 < r = let a = same-us.reach in omega arith in
-              packet-not shut (f ∙ ap (λ (i : ℕ). cond (eqb i 1) 1 0) (rest-order h))
+              ap order_first (rest-order h)
 
       -- all are
       module _ (y : r ≡ stop) where
@@ -672,26 +595,22 @@ module _ {us : List ℕ} {at total stop : ℕ} (w : Within us at total) (e : Pac
           fits-unused = fits-front (all_are) ∙ ap (all_is 0xFF) (sym unused-is)
 
           -- 14: one of them is not FFh
-          pub packet-shut : {q : ℕ} → all_is 0xFF unused ≡ false → q ≡ cond (eqb (order_from false stop (packs_at after stop total)) 1) 1 0
-              → PacketOpened us after at total to q
+          pub packet-shut : {q : Refusal} → all_is 0xFF unused ≡ false → q ≡ order_first (order_from false stop (packs_at after stop total))
+              → NotMoved us at total q
           packet-shut f g =
               let k = ap (λ (i : ℕ). order_from false i (packs_at after i total)) (sym y) ∙ rest-order passed in
-              packet-not (fits-unused ∙ f) (g ∙ ap (λ (i : ℕ). cond (eqb i 1) 1 0) k)
+              record { shut = fits-unused ∙ f; order = g ∙ ap order_first k }
 
           -- all are FFh, and the packet is moved
-          pub packet-opened : all_is 0xFF unused ≡ true → PacketOpened us after at total to stop
+          pub packet-opened : all_is 0xFF unused ≡ true → MovedTo us after at total to stop
           packet-opened f =
               let g = front_bytes_lem all_are in
               let m = opened-moved in
-              let s = stop_is in
               let k = sym (ap (order_from false r) rest-there) ∙ rest-order passed in
               record {
-                shut = λ o. absurd (z o);
-                ordered = λ o. absurd (z o);
-                wrong = λ o. absurd (omega arith);
-                passes = λ h. fits-unused ∙ f;
-                place = λ h. e.place z ∙ ap (λ (k : ℕ). at + 10 + (k + 3) / 4 * 5) (sym (ap (λ (s : List ℕ). get_or s 5 0) g ∙ dc-is));
-                within = λ h. e.within;
-                same = λ h. ap (λ (i : ℕ). order_from false i (packs_at us i total)) (sym y) ∙ k;
-                moved = λ h. rw g m;
+                passes = fits-unused ∙ f;
+                place = e.place ∙ ap (λ (k : ℕ). at + 10 + (k + 3) / 4 * 5) (sym (ap (λ (s : List ℕ). get_or s 5 0) g ∙ dc-is));
+                within = e.within;
+                same = ap (λ (i : ℕ). order_from false i (packs_at us i total)) (sym y) ∙ k;
+                moved = rw g m;
               }

@@ -3,8 +3,12 @@
 -- In order: packs in a run of bytes; their order (13); one packet (14); all of them.
 -- Assumes nothing.
 use Rattle.std.specs.Prelude.{ℕ, suc, ◌+◌, ◌-◌, ◌*◌, ◌/◌, ◌%◌, ◌≤◌, ◌<◌, ◌≡◌, Bool, true, false, cond, ◌&&◌, ◌||◌}
-use Rattle.std.specs.Prelude.{List, [], ◌∷◌, ◌++◌, eqb, leb, length, get_or, take, drop}
+use Rattle.std.specs.Prelude.{List, [], ◌∷◌, ◌++◌, eqb, leb, length, get_or, take, drop, Option, None, Some, Result, Ok, Err}
 use Rattle.rules.specs.Base.{All}
+use Rattle.rules.specs.declared.Refusal.{Refusal}
+use Rattle.rules.specs.declared.Refusal.TheVariants.{Packs, Length}
+use Rattle.rules.specs.declared.Refused.{Refused}
+use Rattle.rules.specs.Refusals.{told_of}
 use Rattle.rules.specs.Systems.{System}
 use Rattle.rules.specs.Packet.{Packet}
 use Rattle.rules.specs.Danc.{Item, Good, packets_of, string, string_byte_count}
@@ -12,7 +16,8 @@ use Rattle.rules.specs.Sheet.{limit}
 use Rattle.rules.specs.Packing1.{Five, fives}
 use Rattle.rules.specs.Numbers.{Outcome, listed, refused, unless, packets_in}
 use Rattle.rules.specs.Reading.{lead, carried, front_bytes, carriers_fit, pack_row, in_order}
-use Rattle.danc.specs.Code.{base, code_of}
+use Rattle.danc.specs.declared.Validated.{Validated}
+use Rattle.danc.specs.Answer.{answer_of}
 
 -- ---- packs in a run of bytes
 
@@ -33,9 +38,9 @@ abbrev pub used : List Five → ℕ
 used [] = 0
 used (p ∷ ps) = cond (eqb p.b0 0xE1 || eqb p.b0 0xE2) (suc (used ps)) 0
 
--- where fill begins behind packs in order that stand at a place; 1, no place of a pack, where the order is wrong
-unfoldable pub order_from : Bool → ℕ → List Five → ℕ
-order_from after at ps = cond (in_order after ps) (at + 5 * used ps) 1
+-- where fill begins behind packs in order that stand at a place; none where the order is wrong
+unfoldable pub order_from : Bool → ℕ → List Five → Option ℕ
+order_from after at ps = cond (in_order after ps) (Some (at + 5 * used ps)) None
 
 -- r is a place of a pack too, and the packs from there on are in order where those from `at` on are, with fill from the same place on
 pub record SameOrder (us : List ℕ) (at total r : ℕ) : Type 0 where
@@ -50,13 +55,17 @@ abbrev pub fits : List Five → Bool
 fits [] = false
 fits (p ∷ ps) = eqb p.b0 0xE1 && carriers_fit (lead ps) (front_bytes (p ∷ ps))
 
--- where the packs end of the packet at a place, if those between are carriers; 0: it does not pass 14
-pub record PacksEnd (us : List ℕ) (at total r : ℕ) : Type 0 where
-  pub shut : r ≡ 0 → fits (packs_at us at total) ≡ false
-  pub starts : (r ≡ 0 → ⊥) → get_or us at 0 ≡ 0xE1
-  pub place : (r ≡ 0 → ⊥) → r ≡ at + 10 + (get_or us (at + 8) 0 + 3) / 4 * 5
-  pub within : r ≤ total
-  pub ends : (r ≡ 0 → ⊥) → lead (packs_at us r total) ≡ 0
+-- the packs end here of the packet at a place, if those between are carriers
+pub record EndsAt (us : List ℕ) (at total stop : ℕ) : Type 0 where
+  pub starts : get_or us at 0 ≡ 0xE1
+  pub place : stop ≡ at + 10 + (get_or us (at + 8) 0 + 3) / 4 * 5
+  pub within : stop ≤ total
+  pub ends : lead (packs_at us stop total) ≡ 0
+
+-- where they end; none: it does not pass 14
+abbrev pub PacksEnd : List ℕ → ℕ → ℕ → Option ℕ → Type 0
+PacksEnd us at total None = fits (packs_at us at total) ≡ false
+PacksEnd us at total (Some stop) = EndsAt us at total stop
 
 -- every pack is a carrier
 abbrev pub all_carriers : List Five → Bool
@@ -80,17 +89,28 @@ pub record CarriersOpened (before after : List ℕ) (from stop to r : ℕ) : Typ
   pub kept : drop r after ≡ drop r before
   pub moved : r ≡ stop → Moved before after to (carried (packs_at before from stop)) stop
 
--- the bytes of the packet at a place were moved to another, and its packs end at r, with those behind them in order where all are. 0: it does not
--- pass 14, and the packs are in order. 1: they are not
-pub record PacketOpened (before after : List ℕ) (at total to r : ℕ) : Type 0 where
-  pub shut : r ≡ 0 → fits (packs_at before at total) ≡ false
-  pub ordered : r ≡ 0 → order_from false at (packs_at before at total) ≡ 1 → ⊥
-  pub wrong : r ≡ 1 → order_from false at (packs_at before at total) ≡ 1
-  pub passes : 1 < r → fits (packs_at before at total) ≡ true
-  pub place : 1 < r → r ≡ at + 10 + (get_or (front_bytes (packs_at before at total)) 5 0 + 3) / 4 * 5
-  pub within : 1 < r → r ≤ total
-  pub same : 1 < r → order_from false r (packs_at before r total) ≡ order_from false at (packs_at before at total)
-  pub moved : 1 < r → Moved before after to (front_bytes (packs_at before at total)) r
+-- 13 before 14: what a packet that does not pass 14 is refused for, from where fill begins behind the packs
+abbrev pub order_first : Option ℕ → Refusal
+order_first None = Packs
+order_first (Some fill) = Length
+
+-- the bytes of the packet at a place were moved to another, and its packs end at `stop`, with those behind them in order where all are
+pub record MovedTo (before after : List ℕ) (at total to stop : ℕ) : Type 0 where
+  pub passes : fits (packs_at before at total) ≡ true
+  pub place : stop ≡ at + 10 + (get_or (front_bytes (packs_at before at total)) 5 0 + 3) / 4 * 5
+  pub within : stop ≤ total
+  pub same : order_from false stop (packs_at before stop total) ≡ order_from false at (packs_at before at total)
+  pub moved : Moved before after to (front_bytes (packs_at before at total)) stop
+
+-- it does not pass 14, and what it is refused for
+pub record NotMoved (before : List ℕ) (at total : ℕ) (refusal : Refusal) : Type 0 where
+  pub shut : fits (packs_at before at total) ≡ false
+  pub order : refusal ≡ order_first (order_from false at (packs_at before at total))
+
+-- what is answered of the packet at a place
+abbrev pub PacketOpened : List ℕ → List ℕ → ℕ → ℕ → ℕ → Result ℕ Refusal → Type 0
+PacketOpened before after at total to (Ok stop) = MovedTo before after at total to stop
+PacketOpened before after at total to (Err refusal) = NotMoved before at total refusal
 
 -- ---- all of them
 
@@ -102,8 +122,8 @@ pub record StringOf (y : System) (ps : List Packet) (us : List ℕ) : Type 0 whe
   pub front : take (string_byte_count ps) us ≡ string items
 
 -- what opening gives back, and what it leaves in the bytes. (Behind the string, and after a refusal, anything may stand.)
-pub record Opens (y : System) (o : Outcome) (r : ℕ) (after : List ℕ) : Type 0 where
-  pub answer : r ≡ code_of 0 0 o
+pub record Opens (y : System) (o : Outcome) (r : Result Validated Refused) (after : List ℕ) : Type 0 where
+  pub answer : told_of r ≡ answer_of 0 0 o
   pub string : (ps : List Packet) → o ≡ listed ps → StringOf y ps after
 
 -- packet by packet 5, 14, 15, 16
@@ -114,10 +134,28 @@ packets_from y ps = packets_in (pack_row y) limit 0 ps
 abbrev pub packets_of_packs : System → List Five → Outcome
 packets_of_packs y ps = unless 13 (in_order false ps) (packets_from y ps)
 
--- what is answered at a place where no packet starts, behind k packets and w string bytes, where fill begins at `fill`
-abbrev pub end_code : ℕ → ℕ → ℕ → ℕ → ℕ
-end_code fill at w k =
-    cond (eqb fill 1) (code_of 0 0 (refused 13 0)) (cond (eqb fill at) (k + base * w) (code_of 0 0 (refused 14 (k % base))))
+-- 13 is of all packs
+abbrev pub wrong_order : Refused
+wrong_order = record { refusal = Packs; place = 0; word = 0 }
+
+-- 14 is of packet k
+abbrev pub wrong_length : ℕ → Refused
+wrong_length k = record { refusal = Length; place = k; word = 0 }
+
+-- what is told of a packet that does not pass 14
+abbrev pub placed : Refusal → ℕ → Refused
+placed Packs k = wrong_order
+placed refusal k = record { refusal = refusal; place = k; word = 0 }
+
+-- 13 before a packet's own fault, from where fill begins behind the packs
+abbrev pub order_before : Option ℕ → Refused → Refused
+order_before None fault = wrong_order
+order_before (Some fill) fault = fault
+
+-- what is answered at a place where no packet starts, behind packets that were opened, from where fill begins
+abbrev pub end_answer : Option ℕ → ℕ → Validated → Result Validated Refused
+end_answer None at opened = Err wrong_order
+end_answer (Some fill) at opened = cond (eqb fill at) (Ok opened) (Err (wrong_length opened.packets))
 
 -- 13, which is also given where the user bytes are not whole packs, then packet by packet
 unfoldable pub packets_of_fives : System → List ℕ → ℕ → Outcome

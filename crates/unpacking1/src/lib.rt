@@ -5,8 +5,6 @@
 ghost use Rattle.std.specs.Prelude.{◌≡◌, true, false, cond, ◌&&◌, ◌+◌, ◌-◌, ◌%◌, ◌≤◌, ◌<◌, eqb, ltb, leb, length, get_or, take, drop};
 ghost use Rattle.rules.specs.Base.{all_is};
 ghost use Rattle.rules.specs.Systems.{System};
-ghost use Rattle.rules.specs.Numbers.{refused as refusedAs};
-ghost use Rattle.danc.specs.Code.{code_of};
 ghost use Rattle.unpacking1.specs.Open.{
   packs_at,
   order_from,
@@ -15,14 +13,18 @@ ghost use Rattle.unpacking1.specs.Open.{
   PacksEnd,
   PacketOpened,
   Within,
-  end_code,
+  order_first,
+  placed,
+  order_before,
+  end_answer,
   Opens,
   packets_of_packs,
   packets_of_fives,
 };
 
-use danc::{BASE, refusal};
+use danc::Validated;
 use frame::{Line, wide};
+use rules::{Refusal, Refused};
 
 // Where the carriers end that stand from `at` on, if any do. Behind a carrier a carrier, a starter and fill may stand: a run of them
 // needs no more than this loop.
@@ -31,75 +33,54 @@ fn carriers_end(us: &[u8; 9360], at: usize, total: usize) -> usize
     ensures { SameOrder us.now at total result }
 {
     let mut end = at;
-    while end < total {
-        if us[end] != 0xE2 {
-            return end;
-        }
+    while end < total && us[end] == 0xE2 {
         end += 5;
     }
     end
 }
 
-// "every pack is a starter, a carrier or five FFh": where fill begins, or 1, no place of a pack, where the order is wrong.
+// "every pack is a starter, a carrier or five FFh": where fill begins, or none where the order is wrong.
 #[cycle(carrier_starter)]
-fn starter(us: &[u8; 9360], at: usize, total: usize) -> usize
+fn starter(us: &[u8; 9360], at: usize, total: usize) -> Option<usize>
     requires { Within us.now at total × (length us.now ≡ 9360) }
     ensures { result ≡ order_from false at (packs_at us.now at total) }
 {
     if at == total {
-        return at;
+        return Some(at);
     }
-    let head = us[at];
-    if head == 0xE2 {
-        return starter(us, at + 5, total);
+    match us[at] {
+        0xE2 => starter(us, at + 5, total),
+        0xE1 => carrier(us, at + 5, total),
+        _ => danc::all_fill(&us[at..total]).then_some(at),
     }
-    if head == 0xE1 {
-        return carrier(us, at + 5, total);
-    }
-    let s = &us[..];
-    if danc::all_fill(&s[at..total]) {
-        return at;
-    }
-    1
 }
 
 // "each starter has a carrier after it"
 #[cycle(carrier_starter)]
-fn carrier(us: &[u8; 9360], at: usize, total: usize) -> usize
+fn carrier(us: &[u8; 9360], at: usize, total: usize) -> Option<usize>
     requires { Within us.now at total × (length us.now ≡ 9360) }
     ensures { result ≡ order_from true at (packs_at us.now at total) }
 {
-    if at == total {
-        return 1;
+    if at == total || us[at] != 0xE2 {
+        return None;
     }
-    if us[at] == 0xE2 {
-        return starter(us, carriers_end(us, at + 5, total), total);
-    }
-    1
+    starter(us, carriers_end(us, at + 5, total), total)
 }
 
-// Where the packs end of the packet that starts at `at`, 0 for 14: "a starter's carriers are not exactly as many as its DC needs".
+// Where the packs end of the packet that starts at `at`, none for 14: "a starter's carriers are not exactly as many as its DC needs".
 // Whether the packs between are carriers is seen when they are opened.
-fn packs_end(us: &[u8], at: usize, total: usize) -> usize
+fn packs_end(us: &[u8], at: usize, total: usize) -> Option<usize>
     requires { Within us.now at total × (at < total) }
     ensures { PacksEnd us.now at total result }
 {
-    if us[at] != 0xE1 {
-        return 0;
-    }
-    if total < at + 10 {
-        return 0;
+    if us[at] != 0xE1 || total < at + 10 {
+        return None;
     }
     let stop = at + 10 + (wide(us[at + 8]) + 3) / 4 * 5;
-    if total < stop {
-        return 0;
+    if total < stop || stop < total && us[stop] == 0xE2 {
+        return None;
     }
-    if stop < total {
-        if us[stop] == 0xE2 {
-            return 0;
-        }
-    }
-    stop
+    Some(stop)
 }
 
 // The bytes of the carriers from `from` to `stop`, moved down to `to`. The answer is where it ends: `stop`, or the first pack that is no carrier.
@@ -110,10 +91,7 @@ fn open_carriers(us: &mut [u8], from: usize, stop: usize, to: usize) -> usize
 {
     let mut f = from;
     let mut o = to;
-    while f < stop {
-        if us[f] != 0xE2 {
-            return f;
-        }
+    while f < stop && us[f] == 0xE2 {
         let a = us[f + 1];
         let b = us[f + 2];
         let c = us[f + 3];
@@ -133,58 +111,44 @@ fn unused_are_fill(us: &[u8], end: usize, full: usize) -> bool
     requires { (end ≤ full) × (full ≤ end + 3) × (full ≤ length us.now) }
     ensures { result ≡ all_is 0xFF (take (full - end) (drop end us.now)) }
 {
-    let unused = full - end;
-    if unused == 0 {
-        return true;
-    }
-    if us[end] != 0xFF {
-        return false;
-    }
-    if unused == 1 {
-        return true;
-    }
-    if us[end + 1] != 0xFF {
-        return false;
-    }
-    if unused == 2 {
-        return true;
-    }
-    us[end + 2] == 0xFF
+    matches!(
+        &us[end..full],
+        [] | [0xFF] | [0xFF, 0xFF] | [0xFF, 0xFF, 0xFF]
+    )
 }
 
-// 13 before 14: of a packet that does not pass 14, whether the packs from a place on are in order. 0: they are; 1: they are not.
-fn order_wrong(us: &[u8; 9360], at: usize, total: usize) -> usize
+// 13 before 14: what a packet that does not pass 14 is refused for, by whether the packs from a place on are in order.
+fn order_refusal(us: &[u8; 9360], at: usize, total: usize) -> Refusal
     requires { Within us.now at total × (length us.now ≡ 9360) }
-    ensures { result ≡ cond (eqb (order_from false at (packs_at us.now at total)) 1) 1 0 }
+    ensures { result ≡ order_first (order_from false at (packs_at us.now at total)) }
 {
-    if starter(us, at, total) == 1 {
-        return 1;
+    match starter(us, at, total) {
+        None => Refusal::Packs,
+        Some(_) => Refusal::Length,
     }
-    0
 }
 
 // The same behind the starter before `first`, whose carriers end at `at`, where they should not: there has to be one.
-fn carriers_wrong(us: &[u8; 9360], first: usize, at: usize, total: usize) -> usize
+fn carriers_refusal(us: &[u8; 9360], first: usize, at: usize, total: usize) -> Refusal
     requires { Within us.now at total × (length us.now ≡ 9360) }
-    ensures { result ≡ cond (eqb at first) 1 (cond (eqb (order_from false at (packs_at us.now at total)) 1) 1 0) }
+    ensures { result ≡ cond (eqb at first) Refusal.Packs (order_first (order_from false at (packs_at us.now at total))) }
 {
     if at == first {
-        return 1;
+        return Refusal::Packs;
     }
-    order_wrong(us, at, total)
+    order_refusal(us, at, total)
 }
 
-// The packet that starts at `at`, from header byte 0 on, moved down to `to`: where its packs end, 0 for 14, or 1 for 13, where the packs from
+// The packet that starts at `at`, from header byte 0 on, moved down to `to`: where its packs end, or 14, or 13 in its place, where the packs from
 // `at` on are not in order. So the packs of a packet are looked at once, and only where one does not pass 14 the two readers read on from there.
 // The unused bytes stand from `end`, the packet's, to `full`, where the bytes of its carriers end, four in each.
-fn open_packet(us: &mut [u8; 9360], at: usize, total: usize, to: usize) -> usize
+fn open_packet(us: &mut [u8; 9360], at: usize, total: usize, to: usize) -> Result<usize, Refusal>
     requires { Within us.old at total × (length us.old ≡ 9360) × (at < total) × (to ≤ at) }
     ensures { PacketOpened us.old us.new at total to result }
 {
-    let stop = packs_end(us, at, total);
-    if stop == 0 {
-        return order_wrong(us, at, total);
-    }
+    let Some(stop) = packs_end(us, at, total) else {
+        return Err(order_refusal(us, at, total));
+    };
     let dc = wide(us[at + 8]);
     let end = to + dc + 7;
     let full = to + (dc + 3) / 4 * 4 + 7;
@@ -196,12 +160,12 @@ fn open_packet(us: &mut [u8; 9360], at: usize, total: usize, to: usize) -> usize
     us[to + 2] = h2;
     let reached = open_carriers(us, at + 5, stop, to + 3);
     if reached != stop {
-        return carriers_wrong(us, at + 5, reached, total);
+        return Err(carriers_refusal(us, at + 5, reached, total));
     }
     if !unused_are_fill(us, end, full) {
-        return order_wrong(us, stop, total);
+        return Err(order_refusal(us, stop, total));
     }
-    stop
+    Ok(stop)
 }
 
 // Whether a packet starts at a place.
@@ -209,89 +173,98 @@ fn starts(us: &[u8; 9360], at: usize, total: usize) -> bool
     requires { (total ≤ length us.now) × (length us.now ≡ 9360) }
     ensures { result ≡ (ltb at total && eqb (get_or us.now at 0) 0xE1) }
 {
-    if at < total {
-        return us[at] == 0xE1;
-    }
-    false
+    at < total && us[at] == 0xE1
 }
 
-// 13 before a packet's own fault: a refusal of its packet, unless the packs from a place on are not in order.
-fn refused(us: &[u8; 9360], at: usize, total: usize, code: usize) -> usize
+// 13 is of all packs.
+const WRONG_ORDER: Refused = Refused {
+    refusal: Refusal::Packs,
+    place: 0,
+    word: 0,
+};
+
+// What is told of packet k, which does not pass 14.
+fn placed(refusal: Refusal, k: usize) -> Refused
+    ensures { result ≡ placed refusal k }
+{
+    if refusal == Refusal::Packs {
+        return WRONG_ORDER;
+    }
+    Refused {
+        refusal,
+        place: k,
+        word: 0,
+    }
+}
+
+// 13 before a packet's own fault: that fault, unless the packs from a place on are not in order.
+fn refused(us: &[u8; 9360], at: usize, total: usize, fault: Refused) -> Refused
     requires { Within us.now at total × (length us.now ≡ 9360) }
-    ensures { result ≡ cond (eqb (order_from false at (packs_at us.now at total)) 1) (code_of 0 0 (refusedAs 13 0)) code }
+    ensures { result ≡ order_before (order_from false at (packs_at us.now at total)) fault }
 {
-    if starter(us, at, total) == 1 {
-        return refusal(13, 0);
+    if starter(us, at, total).is_none() {
+        return WRONG_ORDER;
     }
-    code
+    fault
 }
 
-// Where no packet starts: fill to the end, k packets and w string bytes before it; else 13, or 14 of carriers without a starter.
-fn ended(us: &[u8; 9360], at: usize, total: usize, w: usize, k: usize) -> usize
-    requires { Within us.now at total × (length us.now ≡ 9360) × (w ≤ 9360) × (k ≤ 9360) }
-    ensures { result ≡ end_code (order_from false at (packs_at us.now at total)) at w k }
+// Where no packet starts: fill to the end, behind the packets that were opened; else 13, or 14 of carriers without a starter.
+fn ended(us: &[u8; 9360], at: usize, total: usize, opened: Validated) -> Result<Validated, Refused>
+    requires { Within us.now at total × (length us.now ≡ 9360) }
+    ensures { result ≡ end_answer (order_from false at (packs_at us.now at total)) at opened }
 {
-    let fill = starter(us, at, total);
-    if fill == 1 {
-        return refusal(13, 0);
-    }
+    let fill = starter(us, at, total).ok_or(WRONG_ORDER)?;
     if fill != at {
-        return refusal(14, k);
+        return Err(placed(Refusal::Length, opened.packets));
     }
-    k + BASE * w
+    Ok(opened)
 }
 
 // 13, then "packet by packet 5 (only a [1,276th]), 14, 15, 16": packs opened to a string. A packet takes two packs at least, so that there are
 // 936 at most, and 5 is never given. Whether the packs are in order is seen on the way: "After a starter only carriers stand, until the packet's
 // last byte; then a starter or fill follows".
-fn open_packets(last: Line, us: &mut [u8; 9360], total: usize) -> usize
+fn open_packets(last: Line, us: &mut [u8; 9360], total: usize) -> Result<Validated, Refused>
     requires { Within us.old 0 total × (length us.old ≡ 9360) }
     ensures { (y : System) → y.last ≡ last.0 → Opens y (packets_of_packs y (packs_at us.old 0 total)) result us.new }
 {
     let lines = frame::lines_of(last);
-    let mut r = 0;
-    let mut w = 0;
+    let mut read = 0;
+    let mut written = 0;
     let mut k = 0;
-    while starts(us, r, total) {
-        let next = open_packet(us, r, total, w);
-        if next == 1 {
-            return refusal(13, 0);
+    while starts(us, read, total) {
+        let next = match open_packet(us, read, total, written) {
+            Ok(next) => next,
+            Err(refusal) => return Err(placed(refusal, k)),
+        };
+        let end = written + wide(us[written + 5]) + 7;
+        if let Err(fault) = danc::judged(&lines, last, us, end, written, k) {
+            return Err(refused(us, next, total, fault));
         }
-        if next == 0 {
-            return refusal(14, k);
-        }
-        // lent whole, which tells the proof its length, and that bytes stand there
-        let s = &us[..];
-        let end = w + wide(s[w + 5]) + 7;
-        let code = danc::judged(&lines, last, us, end, w, k);
-        if code != 0 {
-            return refused(us, next, total, code);
-        }
-        r = next;
-        w = end;
+        read = next;
+        written = end;
         k += 1;
     }
-    ended(us, r, total, w, k)
+    let opened = Validated {
+        packets: k,
+        end: written,
+    };
+    ended(us, read, total, opened)
 }
 
 // Whether these are packs of 5, and all of them there.
 fn whole(us: &[u8], total: usize) -> bool
     ensures { result ≡ (leb total (length us.now) && eqb (total % 5) 0) }
 {
-    if us.len() < total {
-        return false;
-    }
-    total % 5 == 0
+    total <= us.len() && total % 5 == 0
 }
 
 // The packs of 5 in the first `total` of an area's user bytes, opened in place: the string then stands at their start.
-// 13, then packet by packet. Packets and `BASE` for each string byte, or from `REFUSED` on a refusal: `BASE` times its number, and its
-// packet.
-pub fn open_fives(last: Line, us: &mut [u8; 9360], total: usize) -> usize
+// 13, then packet by packet: how many packets there are, and where their string ends.
+pub fn open_fives(last: Line, us: &mut [u8; 9360], total: usize) -> Result<Validated, Refused>
     ensures { (y : System) → y.last ≡ last.0 → Opens y (packets_of_fives y us.old total) result us.new }
 {
     if !whole(us, total) {
-        return refusal(13, 0);
+        return Err(WRONG_ORDER);
     }
     open_packets(last, us, total)
 }
