@@ -1,12 +1,12 @@
 -- Laws for the proofs of this crate, one path of the code at a time.
 --
--- In order: low bytes; carriers; the last carrier; a packet's packs from its words; what a sound packet's words give; a loop that lays packs.
+-- In order: low bytes; carriers; a packet's packs from its words; what a sound packet's words give; a loop that lays packs.
 -- Assumes nothing.
 use Prim.Native.Nat.{ℕ, zero, suc, ◌+◌, ◌-◌, ◌*◌, ◌/◌, ◌%◌, ◌≤◌, ◌<◌}
 use mathlib.Core.Path.{◌≡◌, refl, sym, ap, ap₂, ◌∙◌}
 use mathlib.Core.List.{List, [], ◌∷◌, ◌++◌, map, map-append}
 use native.Mathlib.Omega.{arith}
-use lib.ListN.{length, get_or, take, drop, length-drop, length-map, take-append-drop, get_or-eq_default}
+use lib.ListN.{length, get_or, take, drop, length-drop, length-map, get_or-eq_default}
 use lib.Seq.{sets, get_or-drop, get_or-take, drop-drop, drop_at, take_at, length-take-le}
 use Rattle.rules.specs.Base.{sum, joined}
 use Rattle.rules.specs.Systems.{System}
@@ -18,6 +18,7 @@ use Rattle.rules.specs.Packing1.{Five, five, flat, carriers, carriers_for, packs
 use Rattle.rules.proofs.Basics.{drop-take, sets-append, rest_part}
 use Rattle.rules.proofs.Words.{packet-words}
 use Rattle.rules.proofs.Packs.{flat_append, flat-length, packet-packs}
+use Rattle.std.proofs.lemmas.List.{drop-map}
 use Rattle.sections.specs.Sections.{SectionsOf}
 use Rattle.sections.proofs.Laws.{
   Left,
@@ -32,7 +33,7 @@ use Rattle.sections.proofs.Laws.{
   head_byte1,
   header-next,
 }
-use Rattle.packing1.specs.Fives.{words_before, packet_fives, Roomy, LaysFives}
+use Rattle.packing1.specs.Fives.{last_words, packet_fives, Roomy, LaysFives}
 
 -- ---- low bytes
 
@@ -56,15 +57,6 @@ carriers-join (suc n) m s =
     ∙ ap (λ (t : List Five). five 0xE2 (get_or s 0 0xFF) (get_or s 1 0xFF) (get_or s 2 0xFF) (get_or s 3 0xFF) ∷ t)
     (carriers-join n m (drop 4 s)
     ∙ ap (λ (t : List ℕ). carriers n (drop 4 s) ++ carriers m t) (drop-drop (4 * n) 4 s ∙ ap (λ (k : ℕ). drop k s) f))
-
--- bytes behind those that they carry are nothing to full ones
-carriers-front : (n : ℕ) (s t : List ℕ) → 4 * n ≤ length s → carriers n (s ++ t) ≡ carriers n s
-carriers-front zero s t h = refl
-carriers-front (suc n) [] t h = absurd (omega arith)
-carriers-front (suc n) (a ∷ []) t h = absurd (omega arith)
-carriers-front (suc n) (a ∷ b ∷ []) t h = absurd (omega arith)
-carriers-front (suc n) (a ∷ b ∷ c ∷ []) t h = absurd (omega arith)
-carriers-front (suc n) (a ∷ b ∷ c ∷ d ∷ s) t h = ap (λ (r : List Five). five 0xE2 a b c d ∷ r) (carriers-front n s t (omega arith))
 
 carriers-bytes : (i : ℕ) (s : List ℕ) → length (flat (carriers i s)) ≡ 5 * i
 carriers-bytes zero s = refl
@@ -108,64 +100,6 @@ carriers-turn ws us₀ us after at i {a} {b} {c} {d} was h ea eb ec ed e =
     byte : (j : ℕ) → 4 * i + j < length ws → low (get_or ws (4 * i + j) 0) ≡ get_or (drop (4 * i) (map low ws)) j 0xFF
     byte j h = sym (get_or-drop (4 * i) (map low ws) j 0xFF ∙ low-at ws (4 * i + j) h)
 
--- ---- the last carrier
-
-module _ (ws us after : List ℕ) (end rest at : ℕ) (inside : rest ≤ end) (whole : end ≤ length ws) where
-  abbrev those : List ℕ
-  those = words_before end rest ws
-
-  those-length : length those ≡ rest
-  those-length = let d = length-drop (end - rest) ws in length-take-le rest (drop (end - rest) ws) (omega arith)
-
-  -- a word, by its place before the end, and no word
-  is_word : (i n : ℕ) {b : ℕ} → i < rest → n + rest ≡ end + i → b ≡ low (get_or ws n 0) → b ≡ get_or (map low those) i 0xFF
-  is_word i n h e is =
-      let l = those-length in
-      let m : n ≡ end - rest + i = omega arith in
-      is
-      ∙ ap (λ (k : ℕ). low (get_or ws k 0)) m
-      ∙ ap low (sym (get_or-take rest (drop (end - rest) ws) i 0 h ∙ get_or-drop (end - rest) ws i 0))
-      ∙ sym (low-at those i (omega arith))
-
-  is-unused : (i : ℕ) → rest ≤ i → 0xFF ≡ get_or (map low those) i 0xFF
-  is-unused i h = let l = those-length in sym (low-none those i (omega arith))
-
-  module _ {a : ℕ} where
-    pub last_one : rest ≡ 1 → a ≡ low (get_or ws (end - 1) 0) → after ≡ sets us at (0xE2 ∷ a ∷ 0xFF ∷ 0xFF ∷ 0xFF ∷ [])
-        → after ≡ sets us at (flat (carriers 1 (map low those)))
-    last_one r ea e =
-        e
-        ∙ ap (sets us at)
-        (one-carrier (map low those) (is_word 0 (end - 1) (omega arith) (omega arith) ea)
-        (is-unused 1 (omega arith)) (is-unused 2 (omega arith)) (is-unused 3 (omega arith)))
-
-    module _ {b : ℕ} where
-      pub last-two : rest ≡ 2 → a ≡ low (get_or ws (end - 2) 0) → b ≡ low (get_or ws (end - 1) 0)
-          → after ≡ sets us at (0xE2 ∷ a ∷ b ∷ 0xFF ∷ 0xFF ∷ []) → after ≡ sets us at (flat (carriers 1 (map low those)))
-      last-two r ea eb e =
-          e
-          ∙ ap (sets us at)
-          (one-carrier (map low those) (is_word 0 (end - 2) (omega arith) (omega arith) ea)
-          (is_word 1 (end - 1) (omega arith) (omega arith) eb) (is-unused 2 (omega arith)) (is-unused 3 (omega arith)))
-
-      pub last-three : {c : ℕ} → rest ≡ 3 → a ≡ low (get_or ws (end - 3) 0) → b ≡ low (get_or ws (end - 2) 0) → c ≡ low (get_or ws (end - 1) 0)
-          → after ≡ sets us at (0xE2 ∷ a ∷ b ∷ c ∷ 0xFF ∷ []) → after ≡ sets us at (flat (carriers 1 (map low those)))
-      last-three r ea eb ec e =
-          e
-          ∙ ap (sets us at)
-          (one-carrier (map low those) (is_word 0 (end - 3) (omega arith) (omega arith) ea)
-          (is_word 1 (end - 2) (omega arith) (omega arith) eb) (is_word 2 (end - 1) (omega arith) (omega arith) ec)
-          (is-unused 3 (omega arith)))
-
--- none, and one
-module _ (s us : List ℕ) (rest at : ℕ) where
-  pub rest-none : rest ≡ 0 → us ≡ sets us at (flat (carriers ((rest + 3) / 4) s))
-  rest-none z = let n : (rest + 3) / 4 ≡ 0 = omega arith in rw n
-
-  pub rest-one : {after : List ℕ} → 0 < rest → rest < 4 → after ≡ sets us at (flat (carriers 1 s))
-      → after ≡ sets us at (flat (carriers ((rest + 3) / 4) s))
-  rest-one h k e = let n : (rest + 3) / 4 ≡ 1 = omega arith in rw n e
-
 -- ---- a packet's packs from its words
 
 -- the starter, and carriers behind it
@@ -175,66 +109,73 @@ starter-laid : (us s : List ℕ) (to dc h0 h1 : ℕ)
 unfolding packet_fives
 starter-laid us s to dc h0 h1 = sym (sets-append (0xE1 ∷ 0xFF ∷ h0 ∷ h1 ∷ 0xFF ∷ []) (flat (carriers (carriers_for dc) s)) us to)
 
--- the words behind the flag of a packet that stands in section C: those of full carriers, and those that are left
-module _ (ws : List ℕ) (at dc : ℕ) (whole : at + dc + 7 ≤ length ws) where
+-- the words behind a packet's flag: those of full carriers, and those that are left
+module _ (words : List ℕ) (whole : 7 ≤ length words) where
+  abbrev dc : ℕ
+  dc = length words - 7
+
   abbrev rest : ℕ
   rest = dc % 4
 
   abbrev full : ℕ
   full = dc / 4 + 1
 
-  abbrev those-behind : List ℕ
-  those-behind = take (dc + 4) (drop (at + 3) ws)
+  abbrev words-behind : List ℕ
+  words-behind = drop 3 words
 
-  behind-length : length those-behind ≡ dc + 4
-  behind-length = let d = length-drop (at + 3) ws in length-take-le (dc + 4) (drop (at + 3) ws) (omega arith)
-
-  pub part-long : 4 * full ≤ length (take (length ws - (at + 3)) (drop (at + 3) ws))
+  pub part-long : 4 * full ≤ length (take (length words - 3) (drop 3 words))
   part-long =
-      let l : length (take (length ws - (at + 3)) (drop (at + 3) ws)) ≡ length ws - (at + 3) =
-      ap length (rest_part (at + 3) ws) ∙ length-drop (at + 3) ws in
+      let l : length (take (length words - 3) (drop 3 words)) ≡ length words - 3 = ap length (rest_part 3 words) ∙ length-drop 3 words in
       omega arith
 
-  full-carriers : carriers full (map low (take (length ws - (at + 3)) (drop (at + 3) ws))) ≡ carriers full (map low those-behind)
-  full-carriers =
-      let l = behind-length in
-      let m = length-map those-behind low in
-      let d : List ℕ = drop (at + 3) ws in
-      ap (λ (t : List ℕ). carriers full (map low t)) (rest_part (at + 3) ws ∙ sym (take-append-drop (dc + 4) d))
-      ∙ ap (carriers full) (map-append low those-behind (drop (dc + 4) d))
-      ∙ carriers-front full (map low those-behind) (map low (drop (dc + 4) d)) (omega arith)
-
-  left-words : drop (4 * full) those-behind ≡ words_before (at + dc + 7) rest ws
-  left-words =
-      let e : at + 3 + 4 * full ≡ at + dc + 7 - rest = omega arith in
-      let n : dc + 4 - 4 * full ≡ rest = omega arith in
-      drop-take (4 * full) (dc + 4) (drop (at + 3) ws)
-      ∙ ap₂ take n (drop-drop (4 * full) (at + 3) ws ∙ ap (λ (k : ℕ). drop k ws) e)
-
-  left-bytes : map low (words_before (at + dc + 7) rest ws) ≡ drop (4 * full) (map low those-behind)
+  left-bytes : map low (last_words rest words) ≡ drop (4 * full) (map low words-behind)
   left-bytes =
-      let f : List ℕ = take (4 * full) those-behind in
-      let l = behind-length in
-      let m : length (map low f) ≡ 4 * full = length-map f low ∙ length-take-le (4 * full) those-behind (omega arith) in
-      ap (map low) (sym left-words)
-      ∙ sym (drop_at (map low f) (map low (drop (4 * full) those-behind)) (4 * full) m)
-      ∙ ap (drop (4 * full)) (sym (map-append low f (drop (4 * full) those-behind)) ∙ ap (map low) (take-append-drop (4 * full) those-behind))
+      let e : 3 + 4 * full ≡ length words - rest = omega arith in
+      ap (λ (n : ℕ). map low (drop n words)) (sym e)
+      ∙ ap (map low) (sym (drop-drop (4 * full) 3 words))
+      ∙ sym (drop-map low (4 * full) words-behind)
 
   -- the stores of a packet, one run after the other
   pub packet-laid : (us : List ℕ) (to h0 h1 : ℕ) {us₁ us₂ us₃ : List ℕ} → us₁ ≡ sets us to (0xE1 ∷ 0xFF ∷ h0 ∷ h1 ∷ 0xFF ∷ [])
-      → us₂ ≡ sets us₁ (to + 5) (flat (carriers full (map low (take (length ws - (at + 3)) (drop (at + 3) ws)))))
-      → us₃ ≡ sets us₂ (to + 5 + 5 * full) (flat (carriers ((rest + 3) / 4) (map low (words_before (at + dc + 7) rest ws))))
-      → us₃ ≡ sets us to (flat (packet_fives dc h0 h1 (map low those-behind)))
+      → us₂ ≡ sets us₁ (to + 5) (flat (carriers full (map low (take (length words - 3) (drop 3 words)))))
+      → us₃ ≡ sets us₂ (to + 5 + 5 * full) (flat (carriers ((rest + 3) / 4) (map low (last_words rest words))))
+      → us₃ ≡ sets us to (flat (packet_fives dc h0 h1 (map low words-behind)))
   packet-laid us to h0 h1 {us₁} {us₂} e1 e2 e3 =
-      let s : List ℕ = map low those-behind in
+      let s : List ℕ = map low words-behind in
       let m : ℕ = (rest + 3) / 4 in
       let n : full + m ≡ carriers_for dc = omega arith in
       e3
       ∙ ap₂ (λ (t v : List ℕ). sets t (to + 5 + 5 * full) (flat (carriers m v)))
-      (e2 ∙ ap (λ (t : List Five). sets us₁ (to + 5) (flat t)) full-carriers) left-bytes
+      (e2 ∙ ap (λ (t : List ℕ). sets us₁ (to + 5) (flat (carriers full (map low t)))) (rest_part 3 words)) left-bytes
       ∙ carriers-laid us₁ s (to + 5) full m
       ∙ ap₂ (λ (t : List ℕ) (k : ℕ). sets t (to + 5) (flat (carriers k s))) e1 n
       ∙ starter-laid us s to dc h0 h1
+
+-- the words of a packet that stands in section C
+abbrev its_words : List ℕ → ℕ → ℕ → List ℕ
+its_words ws at dc = take (at + (dc + 7) - at) (drop at ws)
+
+module _ (ws : List ℕ) (at dc : ℕ) (whole : at + (dc + 7) ≤ length ws) where
+  its_words-length : length (its_words ws at dc) ≡ dc + 7
+  its_words-length = let d = length-drop at ws in length-take-le (at + (dc + 7) - at) (drop at ws) (omega arith) ∙ (omega arith)
+
+  its_words-behind : drop 3 (its_words ws at dc) ≡ take (dc + 4) (drop (at + 3) ws)
+  its_words-behind =
+      let n : at + (dc + 7) - at - 3 ≡ dc + 4 = omega arith in
+      drop-take 3 (at + (dc + 7) - at) (drop at ws) ∙ ap₂ take n (drop-drop 3 at ws)
+
+  its_dc : length (its_words ws at dc) - 7 ≡ dc
+  its_dc = let l = its_words-length in omega arith
+
+  its_fives : (h0 h1 : ℕ) → packet_fives (length (its_words ws at dc) - 7) h0 h1 (map low (drop 3 (its_words ws at dc)))
+      ≡ packet_fives dc h0 h1 (map low (take (dc + 4) (drop (at + 3) ws)))
+  its_fives h0 h1 = ap₂ (λ (k : ℕ) (t : List ℕ). packet_fives k h0 h1 (map low t)) its_dc its_words-behind
+
+-- it is lent with its words, and its packs have room
+pub record Lent (ws : List ℕ) (at dc o : ℕ) : Type 0 where
+  pub inside : at + (dc + 7) ≤ length ws
+  pub long : 7 ≤ length (its_words ws at dc)
+  pub room : o + 5 * (1 + carriers_for (length (its_words ws at dc) - 7)) ≤ 9360
 
 -- ---- what a sound packet's words give
 
@@ -274,7 +215,7 @@ fives-begin {ls} {ws} = record { of = λ y ps h. record { left = ps; is = left-a
 
 module _ {ls ws us₀ us : List ℕ} {k at o : ℕ} (so : FivesSoFar ls ws us₀ us k at o) where
   -- all are laid
-  pub fives-done : length ls ≤ k → LaysFives ls ws us₀ us
+  pub fives-done : length ls < k + 2 → LaysFives ls ws us₀ us
   fives-done end = record { laid = λ y ps h. done y ps (so.of y ps h) }
     where
       done : (y : System) (ps : List Packet) → FivesLeft y ps ls ws us₀ us k at o → us ≡ sets us₀ 0 (flat (joined packs (map written ps)))
@@ -299,7 +240,7 @@ module _ {ls ws us₀ us : List ℕ} {k at o : ℕ} (so : FivesSoFar ls ws us₀
         (z, omega arith)
 
     -- the next packet stands in the sections, and its packs have room
-    pub fives-inside : Roomy ls ws → (at + (low (get_or ws (at + 5) 0) + 7) ≤ length ws) × (k + 2 ≤ length ls)
+    pub fives-inside : Roomy ls ws → (at + (low (get_or ws (at + 5) 0) + 7) ≤ length ws)
         × (o + 5 * (1 + carriers_for (low (get_or ws (at + 5) 0))) ≤ 9360)
     fives-inside v =
         let y = v.sections.system in
@@ -309,16 +250,33 @@ module _ {ls ws us₀ us : List ℕ} {k at o : ℕ} (so : FivesSoFar ls ws us₀
         let i = next-inside y ls ws k at _ n in
         let z = (size-next refl y ps (so.of y ps h) n).1 in
         let r = v.room in
-        (i.0, i.1, omega arith)
+        (i.0, omega arith)
+
+    -- what is lent of it: its words, and room for their packs
+    pub fives-next : Roomy ls ws → (dc : ℕ) → dc ≡ low (get_or ws (at + 5) 0) → Lent ws at dc o
+    fives-next v dc size =
+        let i = fives-inside v in
+        let e : at + (dc + 7) ≤ length ws = omega (arith, i.0) in
+        record {
+          inside = e;
+          long = let l = its_words-length ws at dc e in omega arith;
+          room = rw (its_dc ws at dc e, size) i.1;
+        }
 
     -- one packet more
     pub fives-turn : {dc h0 h1 next : ℕ} {after : List ℕ} → dc ≡ low (get_or ws (at + 5) 0) → h0 ≡ head_byte0 (get_or ls k 0)
-        → h1 ≡ head_byte1 (get_or ls k 0) (get_or ls (k + 1) 0)
-        → after ≡ sets us o (flat (packet_fives dc h0 h1 (map low (take (dc + 4) (drop (at + 3) ws)))))
-        → next ≡ o + 5 * (1 + carriers_for dc)
+        → h1 ≡ head_byte1 (get_or ls k 0) (get_or ls (k + 1) 0) → at + (dc + 7) ≤ length ws
+        → (after ≡ sets us o (flat (packet_fives (length (its_words ws at dc) - 7) h0 h1 (map low (drop 3 (its_words ws at dc))))))
+        × (next ≡ o + 5 * (1 + carriers_for (length (its_words ws at dc) - 7)))
         → FivesSoFar ls ws us₀ after (k + 2) (at + (dc + 7)) next
-    fives-turn {dc} {h0} {h1} {next} {after} size e0 e1 ea en = record { of = λ y ps h. turn y ps h (so.of y ps h) (next-five y ps h) }
+    fives-turn {dc} {h0} {h1} {next} {after} size e0 e1 inside w = record { of = λ y ps h. turn y ps h (so.of y ps h) (next-five y ps h) }
       where
+        ea : after ≡ sets us o (flat (packet_fives dc h0 h1 (map low (take (dc + 4) (drop (at + 3) ws)))))
+        ea = w.0 ∙ ap (λ (t : List Five). sets us o (flat t)) (its_fives ws at dc inside h0 h1)
+
+        en : next ≡ o + 5 * (1 + carriers_for dc)
+        en = w.1 ∙ ap (λ (n : ℕ). o + 5 * (1 + carriers_for n)) (its_dc ws at dc inside)
+
         turn : (y : System) (ps : List Packet) → SectionsOf y ps ls ws → (f : FivesLeft y ps ls ws us₀ us k at o) → Next y ls ws k at f.left
             → FivesLeft y ps ls ws us₀ after (k + 2) (at + (dc + 7)) next
         turn y ps h f n =
@@ -330,6 +288,7 @@ module _ {ls ws us₀ us : List ℕ} {k at o : ℕ} (so : FivesSoFar ls ws us₀
             let is : packet_fives dc h0 h1 (map low (take (dc + 4) (drop (at + 3) ws))) ≡ packs (written p) =
             ap₂ (λ (m : ℕ) (t : List ℕ). packet_fives m h0 h1 t) d (body-there y p n.fine ws (all_words qs) at dc n.there d)
             ∙ packs-of y p n.fine h0 h1 (header-next y h.last n e0 e1) in
+            let m : next ≡ o + 5 * (1 + carriers_for dc) = en in
             let to : next ≡ o + length (flat (packs (written p))) = omega arith in
             record {
               left = qs;

@@ -1,8 +1,8 @@
 -- What laying packs of 5 takes and promises, over the sections B and C of a sheet.
 --
--- In order: words before an end; a packet's packs; all packs.
+-- In order: a packet's last words; a packet's packs; all packs.
 -- Assumes nothing.
-use Rattle.std.specs.Prelude.{ℕ, ◌-◌, ◌*◌, ◌≤◌, ◌≡◌, List, ◌∷◌, map, take, drop}
+use Rattle.std.specs.Prelude.{ℕ, ◌-◌, ◌*◌, ◌≤◌, ◌≡◌, List, ◌∷◌, map, length, drop}
 use Rattle.std.proofs.lemmas.List.Edits.{sets}
 use Rattle.rules.specs.Base.{sum, joined}
 use Rattle.rules.specs.Systems.{System}
@@ -11,9 +11,9 @@ use Rattle.rules.specs.Danc.{written}
 use Rattle.rules.specs.Packing1.{Five, five, flat, carriers, carriers_for, packs_of, packs}
 use Rattle.sections.specs.Sections.{SectionsOf, Sections}
 
--- the last n words before an end
-abbrev pub words_before : ℕ → ℕ → List ℕ → List ℕ
-words_before end n ws = take n (drop (end - n) ws)
+-- the last n of a packet's words
+abbrev pub last_words : ℕ → List ℕ → List ℕ
+last_words n words = drop (length words - n) words
 
 -- the packs of a packet of this DC whose first header bytes are h0 and h1, and whose bytes behind the header are s
 unfoldable pub packet_fives : ℕ → ℕ → ℕ → List ℕ → List Five

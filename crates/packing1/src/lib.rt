@@ -2,11 +2,11 @@
 // tests. Where the user bytes lie in an area is no concern of theirs. Quotations are from document 01.
 #![tactic(auto)]
 
-ghost use Rattle.std.specs.Prelude.{◌+◌, ◌*◌, ◌/◌, ◌≤◌, ◌<◌, ◌≡◌, [], ◌∷◌, map, length, take, drop};
+ghost use Rattle.std.specs.Prelude.{◌+◌, ◌-◌, ◌*◌, ◌/◌, ◌≤◌, ◌<◌, ◌≡◌, [], ◌∷◌, map, length, drop};
 ghost use Rattle.std.proofs.lemmas.List.Edits.{sets};
 ghost use Rattle.rules.specs.Laying.{low};
 ghost use Rattle.rules.specs.Packing1.{flat, carriers, carriers_for};
-ghost use Rattle.packing1.specs.Fives.{words_before, packet_fives, Roomy, LaysFives};
+ghost use Rattle.packing1.specs.Fives.{last_words, packet_fives, Roomy, LaysFives};
 
 use danc::{head0, head1};
 use frame::Line;
@@ -40,8 +40,7 @@ fn lay_carriers(ws: &[u16], full: usize, us: &mut [u8; 9360], at: usize)
     requires { (4 * full ≤ length ws.now) × (at + 5 * full ≤ 9360) }
     ensures { us.new ≡ sets us.old at (flat (carriers full (map low ws.now))) }
 {
-    let mut i = 0;
-    while i < full {
+    for i in 0..full {
         let f = 4 * i;
         put_five(
             us,
@@ -52,24 +51,24 @@ fn lay_carriers(ws: &[u16], full: usize, us: &mut [u8; 9360], at: usize)
             low(ws[f + 2]),
             low(ws[f + 3]),
         );
-        i += 1;
     }
 }
 
-// "the last carrier's unused bytes are FFh": the carrier of one, two or three words before an end. No byte is tested by itself; and tests
+// "the last carrier's unused bytes are FFh": the carrier of a packet's last one, two or three words. No byte is tested by itself; and tests
 // for each number of words would become a jump through a table, which is slower than these two.
-fn lay_last(ws: &[u16], end: usize, rest: usize, us: &mut [u8; 9360], at: usize)
-    requires { (0 < rest) × (rest < 4) × (rest ≤ end) × (end ≤ length ws.now) × (at + 5 ≤ 9360) }
-    ensures { us.new ≡ sets us.old at (flat (carriers 1 (map low (words_before end rest ws.now)))) }
+fn lay_last(words: &[u16], rest: usize, us: &mut [u8; 9360], at: usize)
+    requires { (0 < rest) × (rest < 4) × (rest ≤ length words.now) × (at + 5 ≤ 9360) }
+    ensures { us.new ≡ sets us.old at (flat (carriers 1 (map low (last_words rest words.now)))) }
 {
+    let end = words.len();
     if 2 < rest {
         put_five(
             us,
             at,
             CARRIER,
-            low(ws[end - 3]),
-            low(ws[end - 2]),
-            low(ws[end - 1]),
+            low(words[end - 3]),
+            low(words[end - 2]),
+            low(words[end - 1]),
             UNUSED,
         );
         return;
@@ -79,51 +78,44 @@ fn lay_last(ws: &[u16], end: usize, rest: usize, us: &mut [u8; 9360], at: usize)
             us,
             at,
             CARRIER,
-            low(ws[end - 2]),
-            low(ws[end - 1]),
+            low(words[end - 2]),
+            low(words[end - 1]),
             UNUSED,
             UNUSED,
         );
         return;
     }
-    put_five(us, at, CARRIER, low(ws[end - 1]), UNUSED, UNUSED, UNUSED);
+    put_five(us, at, CARRIER, low(words[end - 1]), UNUSED, UNUSED, UNUSED);
 }
 
-// The words before a packet's end that fill no carrier, if there are any: they are the next pack's. The place behind it is given back.
-fn lay_rest(ws: &[u16], end: usize, rest: usize, us: &mut [u8; 9360], next: usize) -> usize
-    requires { (rest < 4) × (rest ≤ end) × (end ≤ length ws.now) × (next + 5 * ((rest + 3) / 4) ≤ 9360) }
+// A packet's last words that fill no carrier, if there are any: they are the next pack's. The place behind it is given back.
+fn lay_rest(words: &[u16], rest: usize, us: &mut [u8; 9360], next: usize) -> usize
+    requires { (rest < 4) × (rest ≤ length words.now) × (next + 5 * ((rest + 3) / 4) ≤ 9360) }
     ensures { (us.new
-        ≡ sets us.old next (flat (carriers ((rest + 3) / 4) (map low (words_before end rest ws.now)))))
+        ≡ sets us.old next (flat (carriers ((rest + 3) / 4) (map low (last_words rest words.now)))))
         × (result ≡ next + 5 * ((rest + 3) / 4)) }
 {
     if rest == 0 {
         return next;
     }
-    lay_last(ws, end, rest, us, next);
+    lay_last(words, rest, us, next);
     next + 5
 }
 
 // "A starter pack is E1h, a reserved byte, and the three header bytes", and carriers for the words behind the flag (001, figure 7): DID,
-// SDID, DC, the user words and CS. The carriers are counted from DC, so that the compiler sees that one at least is full. The place of the
-// next packet's packs is given back.
-fn lay_packet(
-    ws: &[u16],
-    at: usize,
-    dc: usize,
-    h0: u8,
-    h1: u8,
-    us: &mut [u8; 9360],
-    to: usize,
-) -> usize
-    requires { (at + dc + 7 ≤ length ws.now) × (to + 5 * (1 + carriers_for dc) ≤ 9360) }
+// SDID, DC, the user words and CS. The carriers are counted from DC, which the packet's length gives, so that the compiler sees that one at
+// least is full. The place of the next packet's packs is given back.
+fn lay_packet(words: &[u16], h0: u8, h1: u8, us: &mut [u8; 9360], to: usize) -> usize
+    requires { (7 ≤ length words.now) × (to + 5 * (1 + carriers_for (length words.now - 7)) ≤ 9360) }
     ensures { (us.new
-        ≡ sets us.old to (flat (packet_fives dc h0 h1 (map low (take (dc + 4) (drop (at + 3) ws.now))))))
-        × (result ≡ to + 5 * (1 + carriers_for dc)) }
+        ≡ sets us.old to (flat (packet_fives (length words.now - 7) h0 h1 (map low (drop 3 words.now)))))
+        × (result ≡ to + 5 * (1 + carriers_for (length words.now - 7))) }
 {
     put_five(us, to, STARTER, RESERVED, h0, h1, RESERVED);
+    let dc = words.len() - 7;
     let full = dc / 4 + 1;
-    lay_carriers(&ws[at + 3..], full, us, to + 5);
-    lay_rest(ws, at + dc + 7, dc % 4, us, to + 5 + 5 * full)
+    lay_carriers(&words[3..], full, us, to + 5);
+    lay_rest(words, dc % 4, us, to + 5 + 5 * full)
 }
 
 // "Packets follow each other in the next pack" (001, 4.1.1). The sheet and its room have been tested before: no packet is tested again, and
@@ -132,14 +124,12 @@ pub fn lay_fives(ls: &[u16], ws: &[u16], us: &mut [u8; 9360])
     requires { Roomy ls.now ws.now }
     ensures { LaysFives ls.now ws.now us.old us.new }
 {
-    let mut k = 0;
     let mut at = 0;
     let mut o = 0;
-    while k < ls.len() {
-        let dc = low_byte(ws[at + 5]);
-        let line = Line(ls[k]);
-        o = lay_packet(ws, at, dc, head0(line), head1(line, ls[k + 1]), us, o);
-        at += dc + 7;
-        k += 2;
+    for pair in ls.chunks_exact(2) {
+        let end = at + (low_byte(ws[at + 5]) + 7);
+        let line = Line(pair[0]);
+        o = lay_packet(&ws[at..end], head0(line), head1(line, pair[1]), us, o);
+        at = end;
     }
 }

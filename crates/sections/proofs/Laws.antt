@@ -1,7 +1,7 @@
 -- Laws for the proofs of this crate, and for those who take a sheet's packets from its sections, one path of the code at a time.
 --
 -- In order: low bytes; the sections of a sheet; the packet at a place of section C; what a sound packet's words give; the packets that
--- are left; their header bytes; a loop that lays headers.
+-- are left; their header bytes; a walk through section B; a loop that lays headers.
 -- Assumes nothing.
 use Prim.Native.Nat.{ℕ, zero, suc, ◌+◌, ◌-◌, ◌*◌, ◌/◌, ◌%◌, ◌≤◌, ◌<◌}
 use mathlib.Core.Path.{◌≡◌, refl, sym, ap, ◌∙◌}
@@ -116,9 +116,13 @@ first_of : (P : Packet → Type 0) (p : Packet) (ps : List Packet) → All P (p 
 first_of P p ps (one g gs) = (g, gs)
 
 module _ (P : Packet → Type 0) (ls ws : List ℕ) where
+  -- too few numbers for a pair
+  pub left-none-short : (k at : ℕ) (left : List Packet) → LeftBy P ls ws k at left → length ls < k + 2 → left ≡ []
+  left-none-short k at [] l h = refl
+  left-none-short k at (p ∷ qs) l h = absurd (let d = length-drop k ls in let m = ap length l.pairs in omega arith)
+
   pub left-none-by : (k at : ℕ) (left : List Packet) → LeftBy P ls ws k at left → length ls ≤ k → left ≡ []
-  left-none-by k at [] l h = refl
-  left-none-by k at (p ∷ qs) l h = absurd (let d = length-drop k ls in let m = ap length l.pairs in omega arith)
+  left-none-by k at left l h = left-none-short k at left l (omega arith)
 
   -- DC's low byte says how many user words there are: 255 at most
   pub next-of-by : ((p : Packet) → P p → length p.user < 256) → (k at : ℕ) (left : List Packet) → LeftBy P ls ws k at left → k < length ls
@@ -172,8 +176,8 @@ module _ (y : System) (ls ws : List ℕ) where
   pub left-all : (ps : List Packet) → SectionsOf y ps ls ws → Left y ls ws 0 0 ps
   left-all ps h = record { each = h.sound; pairs = h.section_b; there = h.section_c }
 
-  pub left-none : (k at : ℕ) (left : List Packet) → Left y ls ws k at left → length ls ≤ k → left ≡ []
-  left-none k at left l h = left-none-by (Sound y) ls ws k at left l h
+  pub left-none : (k at : ℕ) (left : List Packet) → Left y ls ws k at left → length ls < k + 2 → left ≡ []
+  left-none k at left l h = left-none-short (Sound y) ls ws k at left l h
 
   pub next_of : (k at : ℕ) (left : List Packet) → Left y ls ws k at left → k < length ls → Next y ls ws k at left
   next_of k at left l h = next-of-by (Sound y) ls ws (λ p g. g.many) k at left l h
@@ -201,6 +205,42 @@ pub header-next : (y : System) → y.last < 2047 → {ls ws : List ℕ} {k at : 
 header-next y hm n e0 e1 =
     let l = allowed-last y n.packet.line n.fine.line in
     rw (e0, e1, n.line, n.flags) (header-written n.packet (omega arith) n.fine.flags)
+
+-- ---- a walk through section B, "P pairs": two numbers at a time
+
+-- the pairs that are left stand from a place on, up to which something is so
+pub record PairsLeft (ls rest : List ℕ) (size : ℕ) (So : ℕ → Type 0) : Type 0 where
+  pub place : ℕ
+  pub is : rest ≡ drop place ls
+  pub two : size ≡ 2
+  pub so : So place
+
+-- the next pair
+pub record Pair (ls rest pair : List ℕ) (k : ℕ) : Type 0 where
+  pub within : k + 2 ≤ length ls
+  pub line : get_or pair 0 0 ≡ get_or ls k 0
+  pub flags : get_or pair 1 0 ≡ get_or ls (k + 1) 0
+  pub after : rest ≡ drop (k + 2) ls
+
+module _ {ls rest : List ℕ} {size : ℕ} {So : ℕ → Type 0} (w : PairsLeft ls rest size So) where
+  pub next-pair : (pair later : List ℕ) → (rest ≡ pair ++ later) × (length pair ≡ size) → Pair ls later pair w.place
+  next-pair pair later e = go pair (sym w.is ∙ e.0) (e.1 ∙ w.two)
+    where
+      go : (pair : List ℕ) → drop w.place ls ≡ pair ++ later → length pair ≡ 2 → Pair ls later pair w.place
+      go [] e l = absurd (omega arith)
+      go (a ∷ []) e l = absurd (omega arith)
+      go (a ∷ b ∷ c ∷ t) e l = absurd (omega arith)
+      go (a ∷ b ∷ []) e l =
+          let z : w.place + 0 ≡ w.place = omega arith in
+          record {
+            within = let d = length-drop w.place ls in let m = ap length e in omega arith;
+            line = ap (λ (t : List ℕ). get_or t 0 0) (sym e) ∙ get_or-drop w.place ls 0 0 ∙ ap (λ (n : ℕ). get_or ls n 0) z;
+            flags = ap (λ (t : List ℕ). get_or t 1 0) (sym e) ∙ get_or-drop w.place ls 1 0;
+            after = ap (drop 2) (sym e) ∙ drop-drop 2 w.place ls;
+          }
+
+  pub pairs-end : length rest < size → length ls < w.place + 2
+  pairs-end h = let t = w.two in let d = length-drop w.place ls in let m = ap length w.is in omega arith
 
 -- ---- a loop that lays headers
 
@@ -311,7 +351,7 @@ module _ {ls ws s₀ s : List ℕ} {k at : ℕ} (so : HeadsSoFar ls ws s₀ s k 
             }
 
   -- all headers are laid
-  pub heads_done : length ls ≤ k → (before : List ℕ) → s₀ ≡ sets before 0 (map low ws) → LaysString ls ws before s
+  pub heads_done : length ls < k + 2 → (before : List ℕ) → s₀ ≡ sets before 0 (map low ws) → LaysString ls ws before s
   heads_done end before e = record { laid = λ y ps h. done y ps (so.of y ps h) }
     where
       done : (y : System) (ps : List Packet) → HeadsLeft y ps ls ws s₀ s k at → s ≡ sets before 0 (string (map written ps))

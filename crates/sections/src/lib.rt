@@ -47,10 +47,8 @@ fn low_bytes(ws: &[u16], s: &mut [u8; 9000])
     requires { length ws.now ≤ 9000 }
     ensures { s.new ≡ sets s.old 0 (map low ws.now) }
 {
-    let mut i = 0;
-    while i < ws.len() {
-        s[i] = low(ws[i]);
-        i += 1;
+    for (i, w) in ws.iter().enumerate() {
+        s[i] = low(*w);
     }
 }
 
@@ -61,15 +59,12 @@ fn lay_heads(ls: &[u16], ws: &[u16], s: &mut [u8; 9000])
     ensures { (before : List ℕ) → s.old ≡ sets before 0 (map low ws.now)
         → LaysString ls.now ws.now before s.new }
 {
-    let mut k = 0;
     let mut at = 0;
-    while k < ls.len() {
-        let dc = low_byte(ws[at + 5]);
-        let line = Line(ls[k]);
+    for pair in ls.chunks_exact(2) {
+        let line = Line(pair[0]);
         s[at] = head0(line);
-        s[at + 1] = head1(line, ls[k + 1]);
-        at += dc + 7;
-        k += 2;
+        s[at + 1] = head1(line, pair[1]);
+        at += low_byte(ws[at + 5]) + 7;
     }
 }
 
