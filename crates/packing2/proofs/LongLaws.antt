@@ -6,13 +6,13 @@ use Prim.Native.Nat.{ℕ, zero, suc, ◌+◌, ◌-◌, ◌*◌, ◌/◌, ◌%◌
 use mathlib.Core.Path.{◌≡◌, refl, sym, ap, ap₂, ◌∙◌}
 use mathlib.Core.Bool.{Bool, true, false, cond, ◌&&◌}
 use mathlib.Core.List.{List, [], ◌∷◌, ◌++◌, append_assoc, append-nil, map-append}
-use native.Mathlib.Nat.{zero-add}
-use native.Mathlib.Numerals.{add-one}
+use native.Mathlib.Nat.{zero-add, add-zero}
 use native.Mathlib.Omega.{arith}
+use Rattle.std.proofs.Common.{Some, None}
 use lib.Dec.{eqb, ltb, leb}
-use lib.ListN.{length, get_or, take, drop, set, replicate, length-take, length-drop, length-replicate, take-append-drop, drop_of_length-le}
-use lib.Seq.{sets, sets-eq, paste, paste-zero, paste-suc, get_or-drop, drop-cons, drop-drop, drop-nil, drop_at, drop-append-le}
-use lib.Seq.{length-take-le, take_all}
+use lib.ListN.{length, take, drop, set, replicate, length-take, length-drop, length-replicate, take-append-drop, drop_of_length-le}
+use lib.Seq.{sets, sets-eq, drop-drop, drop-nil, drop_at, drop-append-le}
+use lib.Seq.{length-take-le}
 use borrow.Author.Tests.{eqb-true, eqb-false, leb-true, leb-false, ltb-true, ltb-false, lt-ltb, le-leb, lt-leb, eq-eqb, ne_eqb}
 use Rattle.rules.specs.Base.{sum, none, one}
 use Rattle.rules.specs.Systems.{System, known, system}
@@ -21,28 +21,16 @@ use Rattle.rules.specs.Packing2.{fill, filled, end_bit, long_packs, string_room,
 use Rattle.rules.proofs.Basics.{all_append, second-false}
 use Rattle.rules.proofs.Blocks.{each-system, scatter-front}
 use Rattle.rules.proofs.Long.{Roomy, long-none, long-length}
-use Rattle.packing2.specs.Long.{Padded, laid_in, long_fits, long_after, CountOf, rows_of, four, row_sizes, rows_sizes}
+use Rattle.packing2.specs.Long.{Padded, laid_in, long_fits, long_after, CountOf, rows_of, rows_found, four, row_sizes, rows_sizes}
 use Rattle.packing2.specs.Long.{block_at, four_runs, row_runs, rows_runs, PackAt, Packed, LaidAt}
 
 -- ---- stores
 
--- a turn of the loop that stores an array: what is left of it, stored, gives the whole
-pub put-turn : (us a : List ℕ) (to i : ℕ) → i < length a
-    → sets (set us (to + i) (get_or a i 0)) (to + (i + 1)) (drop (i + 1) a) ≡ sets us (to + i) (drop i a)
-put-turn us a to i h =
-    let e : to + (i + 1) ≡ suc (to + i) = omega arith in
-    rw (e, add-one, drop-cons a i 0 h)
-
--- nothing is left
-pub put-end : (us a : List ℕ) (to i : ℕ) → length a ≤ i → sets us (to + i) (drop i a) ≡ us
-put-end us a to i h = rw (drop_of_length-le a h)
-
--- an array stored is in its block
-pub put-into : (w to : ℕ) (area a : List ℕ) → length a ≡ w → to + w ≤ length area → sets area to a ≡ into area to w a
-put-into w to area a l h =
-    sets-eq a area to (omega arith)
-    ∙ append_assoc (take to area) a (drop (to + length a) area)
-    ∙ rw (take_all w a (omega arith), l, drop-drop w to area)
+-- a part of a list with others in its place has them stored there
+pub part-stored : (us xs ys : List ℕ) (to d : ℕ) → xs ≡ ys → length ys ≡ d → to + d ≤ length us
+    → take to us ++ (xs ++ drop d (drop to us)) ≡ sets us to ys
+part-stored us xs ys to d e l h =
+    rw (e, drop-drop d to us, ← l) (sym (sets-eq ys us to (omega arith) ∙ append_assoc (take to us) ys (drop (to + length ys) us)))
 
 -- ---- one pack
 
@@ -110,38 +98,23 @@ pack-some n s at len hl p h k =
     pack-of n (drop at (take len s)) (omega arith)
     ∙ ap₂ (λ (e : Bool) (t : List ℕ). 0xE3 ∷ (254 + cond e 0 1) ∷ 0xFF ∷ t) (leb-rest len at (n - 3) (length (drop at (take len s))) ld h) (sym f)
 
--- the array a₀ of n bytes, with i bytes of the buffer, from its byte `at` on, behind its first three
-pub record Filling (n : ℕ) (a₀ s : List ℕ) (at : ℕ) (a : List ℕ) (i : ℕ) : Type 0 where
-  pub long : length a₀ ≡ n
-  pub is : length s ≡ 9000 → a ≡ paste a₀ 3 (drop at s) i
+-- so an array of fill is the pack, with its three bytes and then these stored
+pub pack-stored : (n e : ℕ) (s xs : List ℕ) (len at d : ℕ) → 3 ≤ n → at < len → len < 9000 → at + (n - 3) ≤ 9000
+    → e ≡ 254 + cond (leb len (at + (n - 3))) 0 1 → xs ≡ take (n - 3) (drop at s) → d ≡ n - 3
+    → PackAt n s len at
+    (take 3 (set (set (set (replicate n 0xFF) 0 0xE3) 1 e) 2 0xFF) ++ (xs ++ drop d (drop 3 (set (set (set (replicate n 0xFF) 0 0xE3) 1 e) 2 0xFF))))
+pack-stored (suc (suc (suc k))) e s xs len at d h g l m f q z =
+    let v : length (replicate {A = ℕ} k 0xFF) ≤ d = let w : length (replicate {A = ℕ} k 0xFF) ≡ k = length-replicate k 0xFF in omega arith in
+    record {
+      is = λ p. rw (drop_of_length-le (replicate k 0xFF) v, append-nil xs, f, q) (sym (pack-some (suc (suc (suc k))) s at len l p g m));
+    }
+pack-stored (suc (suc zero)) e s xs len at d h g l m f q z = absurd (omega arith)
+pack-stored (suc zero) e s xs len at d h g l m f q z = absurd (omega arith)
+pack-stored zero e s xs len at d h g l m f q z = absurd (omega arith)
 
--- before the loop that fills a pack
-pub fill_none : {n : ℕ} {a₀ s : List ℕ} {at : ℕ} → length a₀ ≡ n → Filling n a₀ s at a₀ 0
-fill_none {n} {a₀} {s} {at} l = record { long = l; is = λ _. paste-zero a₀ 3 (drop at s) }
-
--- a turn of it
-pub fill-turn : {n : ℕ} {a₀ s : List ℕ} {at : ℕ} {a : List ℕ} {i : ℕ} → Filling n a₀ s at a i → 3 + i < n → at + i < 9000
-    → Filling n a₀ s at (set a (3 + i) (get_or s (at + i) 0)) (i + 1)
-fill-turn {n} {a₀} {s} {at} {a} {i} f h k = record { long = f.long; is = next f.long f.is }
-  where
-    next : length a₀ ≡ n → (length s ≡ 9000 → a ≡ paste a₀ 3 (drop at s) i) → length s ≡ 9000
-        → set a (3 + i) (get_or s (at + i) 0) ≡ paste a₀ 3 (drop at s) (i + 1)
-    next e v l =
-        let d : i < length (drop at s) = simp length-drop (omega arith) in
-        rw (v l, add-one, ← get_or-drop at s i 0) (paste-suc a₀ 3 (drop at s) i 0 (omega arith) d)
-
--- after it, the array is the pack, if it began as one
-pub fill_end : {n : ℕ} {s : List ℕ} {at : ℕ} {a : List ℕ} {i e : ℕ} (len : ℕ)
-    → Filling n (0xE3 ∷ e ∷ 0xFF ∷ fill (n - 3)) s at a i → e ≡ 254 + cond (leb len (at + (n - 3))) 0 1
-    → i ≡ n - 3 → at < len → len < 9000 → at + (n - 3) ≤ 9000 → Padded len s
-    → a ≡ long_packs (n ∷ []) [] (drop at (take len s))
-fill_end {n} {s} {at} {a} {i} {e} len f ee ei h hl k p =
-    let a₀ : List ℕ = 0xE3 ∷ e ∷ 0xFF ∷ fill (n - 3) in
-    let g : length a₀ ≤ 3 + i = let l : length (fill (n - 3)) ≡ n - 3 = length-replicate (n - 3) 0xFF in omega arith in
-    f.is (padded-length s len hl p)
-    ∙ ap₂ (λ (j : ℕ) (t : List ℕ). 0xE3 ∷ e ∷ 0xFF ∷ (take j (drop at s) ++ t)) ei (drop_of_length-le a₀ g)
-    ∙ ap₂ (λ (j : ℕ) (t : List ℕ). 0xE3 ∷ j ∷ 0xFF ∷ t) ee (append-nil (take (n - 3) (drop at s)))
-    ∙ sym (pack-some n s at len hl p h k)
+-- behind the string's end it is fill
+pub pack-filled : (n : ℕ) (s : List ℕ) (len at : ℕ) → len ≤ at → PackAt n s len at (fill n)
+pack-filled n s len at h = record { is = λ _. sym (packs-none (n ∷ []) s at len h ∙ ap fill (add-zero n)) }
 
 -- ---- packs that follow each other
 
@@ -283,25 +256,22 @@ pub room-rows : (k : ℕ) → string_room (rows_sizes k) ≡ 1488 * k
 room-rows zero = refl
 room-rows (suc k) = let e = room-rows k in omega arith
 
--- a turn of the loop over rows: what is left of them, laid, gives the whole
-pub rows-turn : (left step to : ℕ) {s : List ℕ} {len at : ℕ} {area mid whole : List ℕ} → 0 < left
-    → LaidAt (rows_runs step to left) s len at area whole → LaidAt (row_runs step to) s len at area mid
-    → LaidAt (rows_runs step (to + 480) (left - 1)) s len (at + 1488) mid whole
+-- a row laid, and then those behind it
+pub row_then : (left step to : ℕ) {s : List ℕ} {len at : ℕ} {area mid whole : List ℕ} → LaidAt (row_runs step to) s len at area mid
+    → LaidAt (rows_runs step (to + 480) left) s len (at + 1488) mid whole → LaidAt (rows_runs step to (suc left)) s len at area whole
 unfolding four_runs row_runs
-rows-turn zero step to h v w = absurd (omega arith)
-rows-turn (suc k) step to {s} {len} {at} {area} {mid} {whole} h v w = let e : suc k - 1 ≡ k = omega arith in rw e (record { is = rest })
-  where
-    rest : Padded len s → Packed (rows_runs step (to + 480) k) (drop (at + 1488) (take len s)) mid whole
-    rest p =
-        let r : List ℕ = laid_in (rows_runs step (to + 480) k) (drop (at + 1488) (take len s)) mid in
-        let n : Packed (rows_runs step (to + 480) k) (drop (at + 1488) (take len s)) mid r = record { is = refl } in
-        record { is = (v.is p).is ∙ sym (laid_then roomy-row (rest-on s len at (at + 1488) 1488 refl) (w.is p) n).is }
+row_then left step to {s} {len} {at} v w = record { is = λ p. laid_then roomy-row (rest-on s len at (at + 1488) 1488 refl) (v.is p) (w.is p) }
 
--- no rows are left
-pub rows_end : (left step to : ℕ) {s : List ℕ} {len at : ℕ} {area whole : List ℕ} → left ≤ 0
-    → LaidAt (rows_runs step to left) s len at area whole → Padded len s → area ≡ whole
-rows_end zero step to h v p = sym (v.is p).is
-rows_end (suc k) step to h v p = absurd (omega arith)
+-- so a turn of the loop over rows is one more of them
+pub rows-turn : (rows r : ℕ) {s : List ℕ} {len : ℕ} {area mid whole : List ℕ} → r < rows
+    → LaidAt (row_runs (480 * rows) (480 * r)) s len (1488 * r) area mid
+    → LaidAt (rows_runs (480 * rows) (480 * (r + 1)) (rows - (r + 1))) s len (1488 * (r + 1)) mid whole
+    → LaidAt (rows_runs (480 * rows) (480 * r) (rows - r)) s len (1488 * r) area whole
+rows-turn rows r {s} {len} {mid = mid} {whole} h v w =
+    let n : rows - r ≡ suc (rows - (r + 1)) = omega arith in
+    let a : 480 * (r + 1) ≡ 480 * r + 480 = omega arith in
+    let b : 1488 * (r + 1) ≡ 1488 * r + 1488 = omega arith in
+    rw n (row_then (rows - (r + 1)) (480 * rows) (480 * r) v (rw (a, b) at w))
 
 -- the blocks of a system are those of its rows
 pub sizes-rows : (sys : ℕ) → block_sizes (system sys) ≡ rows_sizes (rows_of sys)
@@ -323,20 +293,60 @@ known-rows : (sys : ℕ) → known sys ≡ ltb 0 (rows_of sys)
 unfolding rows_of
 known-rows sys = each-system (λ (y : System) (k : Bool). k ≡ ltb 0 (y.sequences / 2)) refl refl refl refl sys
 
+-- the rows of a system are found exactly where it is known
+pub record Found (sys rows : ℕ) : Type 0 where
+  pub is_known : known sys ≡ true
+  pub is : rows ≡ rows_of sys
+  pub some : 0 < rows
+  pub most : rows ≤ 6
+
+some-rows : (k : Bool) (n r : ℕ) → Some r ≡ cond k (Some n) None → (k ≡ true) × (r ≡ n)
+some-rows true n r e = (refl, cc)
+some-rows false n r e = absurd (cc)
+
+none-rows : (k : Bool) (n : ℕ) → None ≡ cond k (Some n) None → k ≡ false
+none-rows true n e = absurd (cc)
+none-rows false n e = refl
+
+most-rows : (sys : ℕ) → rows_of sys ≤ 6
+unfolding rows_of
+most-rows sys = each-system (λ (y : System) (k : Bool). y.sequences / 2 ≤ 6) (omega arith) (omega arith) (omega arith) (omega arith) sys
+
+pub found_rows : (sys rows : ℕ) → Some rows ≡ rows_found sys → Found sys rows
+unfolding rows_found
+found_rows sys rows e =
+    let p = some-rows (known sys) (rows_of sys) rows e in
+    let z = ltb-true 0 (rows_of sys) (sym (known-rows sys) ∙ p.0) in
+    let m = most-rows sys in
+    record { is_known = p.0; is = p.1; some = omega arith; most = omega arith }
+
+pub found_none : (sys : ℕ) → None ≡ rows_found sys → known sys ≡ false
+unfolding rows_found
+found_none sys e = none-rows (known sys) (rows_of sys) e
+
+pub rows-none : (sys : ℕ) → known sys ≡ false → rows_of sys ≡ 0
+rows-none sys k = let z = ltb-false 0 (rows_of sys) (sym (known-rows sys) ∙ k) in omega arith
+
+-- no number but 1 to 3 has rows
+pub none_found : (sys : ℕ) → (sys ≡ 1 → ⊥) → (sys ≡ 2 → ⊥) → (sys ≡ 3 → ⊥) → None ≡ rows_found sys
+unfolding rows_found known
+none_found sys a b c = rw (ne_eqb sys 1 a, ne_eqb sys 2 b, ne_eqb sys 3 c) refl
+
 -- where a string does not fit, the area stays
 pub after_kept : (sys len : ℕ) (s area : List ℕ) → long_fits sys len area ≡ false → area ≡ long_after sys len s area
 unfolding long_after
 after_kept sys len s area f = rw f
+
+-- nothing fits a system that is not known
+pub fits-none : (sys len : ℕ) (area : List ℕ) → known sys ≡ false → long_fits sys len area ≡ false
+unfolding long_fits
+fits-none sys len area k = rw k
 
 module _ (sys len rows : ℕ) (area : List ℕ) (e : rows ≡ rows_of sys) where
   -- whether a string fits, by rows
   fits-rows : long_fits sys len area ≡ (ltb 0 rows && (eqb (length area) (1920 * rows) && leb len (1488 * rows)))
   unfolding long_fits
   fits-rows = rw (known-rows sys, area-rows sys, sizes-rows sys, ← e, room-rows rows)
-
-  -- nothing fits where there are no rows
-  pub fits-none : rows ≡ 0 → long_fits sys len area ≡ false
-  fits-none z = fits-rows ∙ rw z
 
   -- nor more than the rows hold
   pub fits-over : 1488 * rows < len → long_fits sys len area ≡ false
@@ -351,9 +361,9 @@ module _ (sys len rows : ℕ) (area : List ℕ) (e : rows ≡ rows_of sys) where
       fits-rows ∙ second-false (ltb 0 rows) (eqb (length area) (1920 * rows) && leb len (1488 * rows)) f
 
   -- all else fits
-  pub fits_in : (rows ≡ 0 → ⊥) → len ≤ 1488 * rows → length area ≡ 1920 * rows → long_fits sys len area ≡ true
+  pub fits_in : 0 < rows → len ≤ 1488 * rows → length area ≡ 1920 * rows → long_fits sys len area ≡ true
   fits_in z h l =
-      fits-rows ∙ rw (lt-ltb 0 rows (omega arith), eq-eqb (length area) (1920 * rows) l, le-leb len (1488 * rows) h)
+      fits-rows ∙ rw (lt-ltb 0 rows z, eq-eqb (length area) (1920 * rows) l, le-leb len (1488 * rows) h)
 
   -- where it fits, the rows laid are what the call promises
   pub after-laid : (s after : List ℕ) → long_fits sys len area ≡ true → LaidAt (rows_runs (480 * rows) 0 rows) s len 0 area after → Padded len s

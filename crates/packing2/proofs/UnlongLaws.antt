@@ -3,14 +3,15 @@
 -- In order: lists; bytes through a local array; packs by number; a pack opened; whole rows; the answer; the answer read; the loop over
 -- packs.
 -- Assumes nothing.
-use Prim.Native.Nat.{ℕ, zero, suc, ◌+◌, ◌-◌, ◌*◌, ◌/◌, ◌%◌, ◌≤◌, ◌<◌}
+use Prim.Native.Nat.{ℕ, zero, suc, ◌+◌, ◌-◌, ◌*◌, ◌%◌, ◌≤◌, ◌<◌}
 use mathlib.Core.Path.{◌≡◌, refl, sym, ap, ◌∙◌, subst}
-use mathlib.Core.Logic.{◌⊎◌, inl, inr, ⊎_elim}
+use mathlib.Core.Logic.{◌⊎◌, inl, inr}
 use mathlib.Core.Bool.{Bool, true, false, cond, ◌&&◌, and-true, and_assoc}
 use mathlib.Core.List.{List, [], ◌∷◌, ◌++◌, append_assoc}
 use native.Mathlib.Nat.{add-zero}
 use native.Mathlib.Omega.{arith}
 use lib.Dec.{eqb, ltb}
+use Rattle.std.proofs.Common.{Option, Some, None}
 use lib.ListN.{length, get_or, take, drop, set, replicate, length-drop}
 use lib.Seq.{sets, length-sets, get_or-take, get_or-drop, drop-drop, take-take, length-take-le}
 use borrow.Author.Tests.{eq-eqb, ne_eqb}
@@ -18,9 +19,10 @@ use Rattle.rules.specs.Base.{all_is, sum, one}
 use Rattle.rules.specs.Packing2.{Opened, opened, shut, onto, open_pack, open_long, string_room}
 use Rattle.rules.proofs.Basics.{never, both, drop-take, sets-front, sets_behind, copy-turn}
 use Rattle.rules.proofs.Long.{Roomy}
-use Rattle.packing2.specs.Long.{rows_of, row_sizes, rows_sizes}
-use Rattle.packing2.specs.Unlong.{opened_from, opened_code, Pulled, room_at, after, sizes_from, opened_on, go_on, pulled_down}
-use Rattle.packing2.proofs.LongLaws.{sizes-rows, sum_rows, room-rows, roomy-row}
+use Rattle.packing2.specs.Long.{rows_of, rows_found, row_sizes, rows_sizes}
+use Rattle.packing2.specs.declared.unlong.Opened.{Opened as Counts}
+use Rattle.packing2.specs.Unlong.{opened_from, opened_of, Pulled, room_at, after, sizes_from, opened_on, go_on, pulled_down}
+use Rattle.packing2.proofs.LongLaws.{found_none, rows-none, sizes-rows, sum_rows, room-rows, roomy-row}
 
 -- ---- lists
 
@@ -233,24 +235,17 @@ row-turn rows r us h w g e =
 
 -- ---- the answer
 
--- the number by the test of what is behind the last pack
-pub fill-number : {t f : Bool} (n : ℕ) → t ≡ f → t ≡ true → n ≡ cond f n 0
-fill-number n e q = rw (← e, q)
-
-pub other-number : {t f : Bool} (n : ℕ) → t ≡ f → t ≡ false → 0 ≡ cond f n 0
-other-number n e q = rw (← e, q)
-
--- what a call that gives the number r, and leaves the buffer as us, has to show
-abbrev pub Answer : Opened → ℕ → List ℕ → Type 0
-Answer o r us = (r ≡ opened_code o) × Pulled o us
+-- what a call that gives r, and leaves the buffer as us, has to show
+abbrev pub Answer : Opened → Option Counts → List ℕ → Type 0
+Answer o r us = (r ≡ opened_of o) × Pulled o us
 
 -- nothing opens
-shut-answer : (o : Opened) (us : List ℕ) → o ≡ shut → Answer o 0 us
-shut-answer o us e = (sym (ap opened_code e), λ t d q. never (cc))
+shut-answer : (o : Opened) (us : List ℕ) → o ≡ shut → Answer o None us
+shut-answer o us e = (sym (ap opened_of e), λ t d q. never (cc))
 
 -- what the last pack gives
-last-answer : (o : Opened) (f : Bool) (us : List ℕ) (len room r : ℕ) → o ≡ cond f (opened (take len us) room) shut → len ≤ length us → len ≤ 8928
-    → (room ≡ 72) ⊎ (room ≡ 42) → r ≡ cond f (len * 128 + room) 0 → Answer o r us
+last-answer : (o : Opened) (f : Bool) (us : List ℕ) (len room : ℕ) (r : Option Counts) → o ≡ cond f (opened (take len us) room) shut
+    → len ≤ length us → len ≤ 8928 → (room ≡ 72) ⊎ (room ≡ 42) → r ≡ cond f (Some (record { bytes = len; room = room })) None → Answer o r us
 last-answer o true us len room r e h m d q = (
   q ∙ rw (e, length-take-le len us h),
   λ t y p.
@@ -261,26 +256,28 @@ last-answer o true us len room r e h m d q = (
 )
 last-answer o false us len room r e h m d q = rw q (shut-answer o us e)
 
+-- a system that is not known has no block
+pub unknown-answer : (sys : ℕ) (us : List ℕ) → None ≡ rows_found sys → Answer (opened_from sys us) None us
+unknown-answer sys us e =
+    let z = found_none sys e in
+    let n = rows-none sys z in
+    shut-answer _ us (rw (sizes-rows sys, n))
+
 -- ---- the answer read: what a caller has from it
 
--- 0 says that nothing opens
-pub answer-none : (o : Opened) (r : ℕ) (us : List ℕ) → Answer o r us → r ≡ 0 → o ≡ shut
-answer-none shut r us w z = refl
-answer-none (opened t d) r us w z =
-    let e = w.0 in
-    let p = w.1 t d refl in
-    ⊎_elim (λ q. absurd (omega arith)) (λ q. absurd (omega arith)) p.2
+-- none says that nothing opens
+pub answer-none : (o : Opened) (us : List ℕ) → Answer o None us → o ≡ shut
+answer-none shut us w = refl
+answer-none (opened t d) us w = let e = w.0 in absurd (cc)
 
--- any other number has the string's length and the string bytes of the last pack
-pub answer-some : (o : Opened) (r : ℕ) (us : List ℕ) → Answer o r us → (r ≡ 0 → ⊥)
-    → (o ≡ opened (take (r / 128) us) (r % 128)) × (r / 128 ≤ 8928)
-answer-some shut r us w z = absurd (z w.0)
-answer-some (opened t d) r us w z =
+-- some are the string's length and the string bytes of the last pack
+pub answer-some : (o : Opened) (p : Counts) (us : List ℕ) → Answer o (Some p) us → (o ≡ opened (take p.bytes us) p.room) × (p.bytes ≤ 8928)
+answer-some shut p us w = let e = w.0 in absurd (cc)
+answer-some (opened t d) p us w =
     let e = w.0 in
-    let p = w.1 t d refl in
-    let h : d < 128 = ⊎_elim (λ q. omega arith) (λ q. omega arith) p.2 in
-    let l : r / 128 ≡ length t = omega arith in
-    let m : r % 128 ≡ d = omega arith in (rw (l, m, p.0), omega (arith, p.1))
+    let v = w.1 t d refl in
+    let z : p ≡ record { bytes = length t; room = d } = cc in
+    rw z (ap (λ (s : List ℕ). opened s d) (sym v.0), v.1)
 
 -- ---- the loop over packs
 
@@ -310,14 +307,14 @@ opening-start rows r us h m =
     }
 
 -- what all rows open to is what the frame opens to
-pub frame-answer : (sys rows : ℕ) (us₀ : List ℕ) {o : Opened} {r : ℕ} {us : List ℕ} → rows ≡ rows_of sys
+pub frame-answer : (sys rows : ℕ) (us₀ : List ℕ) {o : Opened} {r : Option Counts} {us : List ℕ} → rows ≡ rows_of sys
     → o ≡ opened_on (rows_sizes rows) (1560 * rows) us₀ 0 0 → Answer o r us → Answer (opened_from sys us₀) r us
 frame-answer sys rows us₀ {r = r} {us = us} e q =
     let f : open_long (rows_sizes rows) (take (1560 * rows) us₀) ≡ opened_from sys us₀ = rw (sizes-rows sys, ← e, sum_rows rows) in
     subst (λ (o : Opened). Answer o r us) (q ∙ onto-none (open_long (rows_sizes rows) (take (1560 * rows) us₀)) ∙ f)
 
 -- no pack is left, and none had END 0
-pub opening-end : {o : Opened} {total : ℕ} {us : List ℕ} {at len k : ℕ} → Opening o total us at len k → total ≤ at → Answer o 0 us
+pub opening-end : {o : Opened} {total : ℕ} {us : List ℕ} {at len k : ℕ} → Opening o total us at len k → total ≤ at → Answer o None us
 opening-end {o} {total} {us} {at} {len} {k} w h = shut-answer o us (go w.left w.whole w.rest)
   where
     go : (left : ℕ) → at + sum (sizes_from k left) ≡ total → opened_on (sizes_from k left) total us at len ≡ o → o ≡ shut
@@ -363,7 +360,7 @@ module _ {o : Opened} {total : ℕ} {us : List ℕ} {at len k : ℕ} (w : Openin
   turn-within = omega (arith, turn.1.0)
 
   -- it does not begin with E3h
-  pub turn_gap : (get_or us at 0 ≡ 0xE3 → ⊥) → Answer o 0 us
+  pub turn_gap : (get_or us at 0 ≡ 0xE3 → ⊥) → Answer o None us
   turn_gap g = shut-answer o us (turn.1.2 ∙ rw (ne_eqb (get_or us at 0) 0xE3 g))
 
   -- it does, and its string bytes are pulled down
@@ -376,7 +373,7 @@ module _ {o : Opened} {total : ℕ} {us : List ℕ} {at len k : ℕ} (w : Openin
     fill-behind = all_is 0xFF (take (total - (at + (3 + room))) (drop (at + (3 + room)) us'))
 
     -- END is 0
-    pub turn_last : get_or us (at + 1) 0 % 2 ≡ 0 → {r : ℕ} → r ≡ cond fill-behind ((len + room) * 128 + room) 0
+    pub turn_last : get_or us (at + 1) 0 % 2 ≡ 0 → {r : Option Counts} → r ≡ cond fill-behind (Some (record { bytes = len + room; room = room })) None
         → Answer o r us'
     turn_last z {r} q = last-answer o fill-behind us' (len + room) room r opens fits (omega (arith, turn.1.1)) (rw is (room-cases k)) q
       where

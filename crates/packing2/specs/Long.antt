@@ -2,7 +2,7 @@
 --
 -- In order: what the calls promise; how the code goes about it: rows of two sequences, and blocks laid from a place on.
 -- Assumes nothing.
-use Rattle.std.specs.Prelude.{ℕ, zero, suc, ◌+◌, ◌-◌, ◌*◌, ◌/◌, ◌≤◌, ◌≡◌, Bool, true, cond, ◌&&◌, List, [], ◌∷◌, ◌++◌, eqb, leb, length, take, drop}
+use Rattle.std.specs.Prelude.{ℕ, zero, suc, ◌+◌, ◌-◌, ◌*◌, ◌/◌, ◌≤◌, ◌≡◌, Bool, true, cond, ◌&&◌, Option, Some, None, List, [], ◌∷◌, ◌++◌, eqb, leb, length, take, drop}
 use Rattle.rules.specs.Systems.{known, system}
 use Rattle.rules.specs.Blocks.{Run, runs, sizes, block_sizes, area_size, scatter}
 use Rattle.rules.specs.Packing2.{fill, long_packs, string_room, long_count}
@@ -36,6 +36,10 @@ CountOf len r =
 -- a frame's rows, of two sequences each
 unfoldable pub rows_of : ℕ → ℕ
 rows_of sys = (system sys).sequences / 2
+
+-- and those that are found: none of a system that is not known
+unfoldable pub rows_found : ℕ → Option ℕ
+rows_found sys = cond (known sys) (Some (rows_of sys)) None
 
 -- the blocks of four channels
 abbrev pub four : ℕ → List ℕ

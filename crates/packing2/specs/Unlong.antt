@@ -1,15 +1,16 @@
--- Reading packing 2 (001, 4.1.2): a frame's user bytes opened, and the number that says what came out.
+-- Reading packing 2 (001, 4.1.2): a frame's user bytes opened, and the numbers that say what came out.
 --
 -- In order: what the call promises; how the code goes about it: the packs' sizes by their number in a row of two sequences; packs that
 -- all go on.
 -- Assumes nothing.
-use Rattle.std.specs.Prelude.{ℕ, zero, suc, ◌+◌, ◌-◌, ◌*◌, ◌%◌, ◌≤◌, ◌≡◌, ◌⊎◌, Bool, true, cond, ◌&&◌}
+use Rattle.std.specs.Prelude.{ℕ, zero, suc, ◌+◌, ◌-◌, ◌%◌, ◌≤◌, ◌≡◌, ◌⊎◌, Bool, true, cond, ◌&&◌, Option, Some, None}
 use Rattle.std.specs.Prelude.{List, [], ◌∷◌, eqb, ltb, length, get_or, take, drop}
 use Rattle.std.proofs.lemmas.List.Edits.{sets}
 use Rattle.rules.specs.Base.{sum}
 use Rattle.rules.specs.Systems.{system}
 use Rattle.rules.specs.Blocks.{block_sizes}
 use Rattle.rules.specs.Packing2.{Opened, opened, shut, onto, open_long}
+use Rattle.packing2.specs.declared.unlong.Opened.{Opened as Counts}
 
 -- ---- what the call promises
 
@@ -17,12 +18,12 @@ use Rattle.rules.specs.Packing2.{Opened, opened, shut, onto, open_long}
 abbrev pub opened_from : ℕ → List ℕ → Opened
 opened_from sys us = open_long (block_sizes (system sys)) (take (sum (block_sizes (system sys))) us)
 
--- one number for the string's length and the string bytes of the last pack, and 0 for what does not open
-abbrev pub opened_code : Opened → ℕ
-opened_code (opened t room) = length t * 128 + room
-opened_code shut = 0
+-- how many bytes the string has, and how many of them the last pack; none of what does not open
+abbrev pub opened_of : Opened → Option Counts
+opened_of (opened t room) = Some (record { bytes = length t; room = room })
+opened_of shut = None
 
--- what opened stands at the start of a buffer, and both parts of its number can be taken out again
+-- what opened stands at the start of a buffer, and is no longer than the longest; its last pack is of either size
 abbrev pub Pulled : Opened → List ℕ → Type 0
 Pulled o us =
     (t : List ℕ) (room : ℕ) → o ≡ opened t room

@@ -5,4 +5,4 @@ mod long;
 mod unlong;
 
 pub use long::{lay_long, long_count};
-pub use unlong::open_long;
+pub use unlong::{Opened, open_long};

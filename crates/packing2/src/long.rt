@@ -2,10 +2,10 @@
 //
 // In order: a pack's three bytes; one pack; the same block of four channels; a row of two sequences; a row of fill; all rows; the
 // call; the count.
-// Functions come in pairs, for blocks of 75 and of 45 user bytes: loops of constant length become a few wide moves.
-ghost use Rattle.std.specs.Prelude.{◌≡◌, false, cond, [], ◌+◌, ◌*◌, ◌≤◌, ◌<◌, leb, length};
+// A block has N user bytes, 75 or 45: copies of constant length become a few wide moves.
+ghost use Rattle.std.specs.Prelude.{◌≡◌, false, cond, [], ◌+◌, ◌-◌, ◌*◌, ◌≤◌, ◌<◌, leb, length};
 ghost use Rattle.rules.specs.Blocks.{into};
-ghost use Rattle.packing2.specs.Long.{Padded, long_fits, long_after, CountOf, rows_of, four_runs, row_runs, rows_runs, PackAt, Packed, LaidAt};
+ghost use Rattle.packing2.specs.Long.{Padded, long_fits, long_after, CountOf, rows_found, four_runs, row_runs, rows_runs, PackAt, Packed, LaidAt};
 
 // "E3h", the first byte of a long pack.
 const LONG: u8 = 0xE3;
@@ -23,92 +23,51 @@ fn end_byte(len: usize, end: usize) -> u8
     0xFF
 }
 
-// "then 72 or 42 string bytes": the pack of a block of 75 user bytes, all FFh where no string byte is left.
-// Behind the string's end the lent buffer has FFh, so the loop looks at no length.
-fn pack75(s: &[u8; 9000], at: usize, len: usize) -> [u8; 75]
-    requires { (at + 72 ≤ 9000) × (len < 9000) }
-    ensures { PackAt 75 s.now len at result }
+// "then 72 or 42 string bytes": the pack of a block of N user bytes, all FFh where no string byte is left.
+// Behind the string's end the lent buffer has FFh, so what is copied looks at no length.
+fn pack<const N: usize>(s: &[u8; 9000], at: usize, len: usize) -> [u8; N]
+    requires { (3 ≤ N) × (at + (N - 3) ≤ 9000) × (len < 9000) }
+    ensures { PackAt N s.now len at result }
 {
-    let mut a = [0xFFu8; 75];
+    let mut bytes = [0xFFu8; N];
     if len <= at {
-        return a;
+        return bytes;
     }
+    let end = at + (N - 3);
+    let a = &mut bytes[..];
     a[0] = LONG;
-    a[1] = end_byte(len, at + 72);
+    a[1] = end_byte(len, end);
     a[2] = THIRD;
-    let mut i = 0;
-    while i < 72 {
-        a[3 + i] = s[at + i];
-        i += 1;
-    }
-    a
+    a[3..].copy_from_slice(&s[at..end]);
+    bytes
 }
 
-// The same for a block of 45 user bytes, which has 42 string bytes.
-fn pack45(s: &[u8; 9000], at: usize, len: usize) -> [u8; 45]
-    requires { (at + 42 ≤ 9000) × (len < 9000) }
-    ensures { PackAt 45 s.now len at result }
+// Stores a pack at its block's place in the area.
+fn put<const N: usize>(bytes: [u8; N], area: &mut [u8], to: usize)
+    requires { to + N ≤ length area.old }
+    ensures { area.new ≡ into area.old to N bytes.entry }
 {
-    let mut a = [0xFFu8; 45];
-    if len <= at {
-        return a;
-    }
-    a[0] = LONG;
-    a[1] = end_byte(len, at + 42);
-    a[2] = THIRD;
-    let mut i = 0;
-    while i < 42 {
-        a[3 + i] = s[at + i];
-        i += 1;
-    }
-    a
-}
-
-// Stores a pack of 75 bytes at its block's place in the area.
-fn put75(a: [u8; 75], area: &mut [u8], to: usize)
-    requires { to + 75 ≤ length area.old }
-    ensures { area.new ≡ into area.old to 75 a }
-{
-    let mut i = 0;
-    while i < 75 {
-        area[to + i] = a[i];
-        i += 1;
-    }
-}
-
-// The same for a pack of 45 bytes.
-fn put45(a: [u8; 45], area: &mut [u8], to: usize)
-    requires { to + 45 ≤ length area.old }
-    ensures { area.new ≡ into area.old to 45 a }
-{
-    let mut i = 0;
-    while i < 45 {
-        area[to + i] = a[i];
-        i += 1;
-    }
+    area[to..to + N].copy_from_slice(&bytes);
 }
 
 // "by sequence, within it by block, within it by channel": the same block of the four channels, which stand `step` bytes apart.
 // "One pack of 75 or 45 bytes per block": built in an array of its own and then stored, which is faster than byte by byte.
-fn four75(s: &[u8; 9000], at: usize, len: usize, area: &mut [u8], to: usize, step: usize)
-    requires { (at + 288 ≤ 9000) × (len < 9000) × (to + 3 * step + 75 ≤ length area.old) }
-    ensures { LaidAt (four_runs 75 to step) s.now len at area.old area.new }
+fn four<const N: usize>(
+    s: &[u8; 9000],
+    at: usize,
+    len: usize,
+    area: &mut [u8],
+    to: usize,
+    step: usize,
+)
+    requires { (45 ≤ N) × (N ≤ 75) × (at + 4 * (N - 3) ≤ 9000) × (len < 9000) × (to + 3 * step + N ≤ length area.old) }
+    ensures { LaidAt (four_runs N to step) s.now len at area.old area.new }
 {
-    put75(pack75(s, at, len), area, to);
-    put75(pack75(s, at + 72, len), area, to + step);
-    put75(pack75(s, at + 144, len), area, to + 2 * step);
-    put75(pack75(s, at + 216, len), area, to + 3 * step);
-}
-
-// The same for the blocks of 45.
-fn four45(s: &[u8; 9000], at: usize, len: usize, area: &mut [u8], to: usize, step: usize)
-    requires { (at + 168 ≤ 9000) × (len < 9000) × (to + 3 * step + 45 ≤ length area.old) }
-    ensures { LaidAt (four_runs 45 to step) s.now len at area.old area.new }
-{
-    put45(pack45(s, at, len), area, to);
-    put45(pack45(s, at + 42, len), area, to + step);
-    put45(pack45(s, at + 84, len), area, to + 2 * step);
-    put45(pack45(s, at + 126, len), area, to + 3 * step);
+    let room = N - 3;
+    put::<N>(pack(s, at, len), area, to);
+    put::<N>(pack(s, at + room, len), area, to + step);
+    put::<N>(pack(s, at + 2 * room, len), area, to + 2 * step);
+    put::<N>(pack(s, at + 3 * room, len), area, to + 3 * step);
 }
 
 // Blocks 0, 1 and 2 of an even sequence and then of an odd one: 45 user bytes "in block 2 of an even sequence" and "in block 0 of
@@ -117,34 +76,23 @@ fn lay_row(s: &[u8; 9000], at: usize, len: usize, area: &mut [u8], to: usize, st
     requires { (at + 1488 ≤ 9000) × (len < 9000) × (to + 3 * step + 480 ≤ length area.old) }
     ensures { LaidAt (row_runs step to) s.now len at area.old area.new }
 {
-    four75(s, at, len, area, to + 3, step);
-    four75(s, at + 288, len, area, to + 83, step);
-    four45(s, at + 576, len, area, to + 163, step);
-    four45(s, at + 744, len, area, to + 273, step);
-    four75(s, at + 912, len, area, to + 323, step);
-    four75(s, at + 1200, len, area, to + 403, step);
+    four::<75>(s, at, len, area, to + 3, step);
+    four::<75>(s, at + 288, len, area, to + 83, step);
+    four::<45>(s, at + 576, len, area, to + 163, step);
+    four::<45>(s, at + 744, len, area, to + 273, step);
+    four::<75>(s, at + 912, len, area, to + 323, step);
+    four::<75>(s, at + 1200, len, area, to + 403, step);
 }
 
 // Behind the string's end, "All other user bytes are FFh": the same block of the four channels as fill.
-fn fill75(area: &mut [u8], to: usize, step: usize)
-    requires { to + 3 * step + 75 ≤ length area.old }
-    ensures { Packed (four_runs 75 to step) [] area.old area.new }
+fn fill<const N: usize>(area: &mut [u8], to: usize, step: usize)
+    requires { (45 ≤ N) × (N ≤ 75) × (to + 3 * step + N ≤ length area.old) }
+    ensures { Packed (four_runs N to step) [] area.old area.new }
 {
-    put75([0xFFu8; 75], area, to);
-    put75([0xFFu8; 75], area, to + step);
-    put75([0xFFu8; 75], area, to + 2 * step);
-    put75([0xFFu8; 75], area, to + 3 * step);
-}
-
-// The same for the blocks of 45.
-fn fill45(area: &mut [u8], to: usize, step: usize)
-    requires { to + 3 * step + 45 ≤ length area.old }
-    ensures { Packed (four_runs 45 to step) [] area.old area.new }
-{
-    put45([0xFFu8; 45], area, to);
-    put45([0xFFu8; 45], area, to + step);
-    put45([0xFFu8; 45], area, to + 2 * step);
-    put45([0xFFu8; 45], area, to + 3 * step);
+    put([0xFFu8; N], area, to);
+    put([0xFFu8; N], area, to + step);
+    put([0xFFu8; N], area, to + 2 * step);
+    put([0xFFu8; N], area, to + 3 * step);
 }
 
 // A row behind the string's end: fill that is stored without a look at the string is faster than 24 packs that find nothing left of it.
@@ -152,12 +100,12 @@ fn fill_row(area: &mut [u8], to: usize, step: usize)
     requires { to + 3 * step + 480 ≤ length area.old }
     ensures { Packed (row_runs step to) [] area.old area.new }
 {
-    fill75(area, to + 3, step);
-    fill75(area, to + 83, step);
-    fill45(area, to + 163, step);
-    fill45(area, to + 273, step);
-    fill75(area, to + 323, step);
-    fill75(area, to + 403, step);
+    fill::<75>(area, to + 3, step);
+    fill::<75>(area, to + 83, step);
+    fill::<45>(area, to + 163, step);
+    fill::<45>(area, to + 273, step);
+    fill::<75>(area, to + 323, step);
+    fill::<75>(area, to + 403, step);
 }
 
 // A row of packs, or of fill where no string byte is left.
@@ -177,33 +125,22 @@ fn lay_rows(rows: usize, s: &[u8; 9000], len: usize, area: &mut [u8])
     requires { (rows ≤ 6) × (len < 9000) × (length area.old ≡ 1920 * rows) }
     ensures { LaidAt (rows_runs (480 * rows) 0 rows) s.now len 0 area.old area.new }
 {
-    let mut left = rows;
-    let mut at = 0;
-    let mut to = 0;
     let step = 480 * rows;
-    while 0 < left {
-        lay_or_fill(s, at, len, area, to, step);
-        at += 1488;
-        to += 480;
-        left -= 1;
+    for row in 0..rows {
+        lay_or_fill(s, 1488 * row, len, area, 480 * row, step);
     }
 }
 
-// "Sequences per channel (n)", two to a row; no rows where "system not 1 to 3".
-#[tactic(auto, unfolding(crate::specs::Long::rows_of, rules::specs::Systems::system))]
-pub(crate) fn rows_of(system: u64) -> usize
-    ensures { (result ≡ rows_of system) × (result ≤ 6) }
+// "Sequences per channel (n)", two to a row; none where "system not 1 to 3".
+pub(crate) fn rows_of(system: u64) -> Option<usize>
+    ensures { result ≡ rows_found system }
 {
-    if system == 1 {
-        return 5;
+    match system {
+        1 => Some(5),
+        2 => Some(6),
+        3 => Some(5),
+        _ => None,
     }
-    if system == 2 {
-        return 6;
-    }
-    if system == 3 {
-        return 5;
-    }
-    0
 }
 
 // Lays a string into the blocks of an area: the buffer's first `len` bytes, with FFh behind them. VS, VSC and all else stay as they
@@ -214,10 +151,9 @@ pub fn lay_long(system: u64, string: &[u8; 9000], len: usize, area: &mut [u8]) -
     ensures area_after { Padded len string.now → area.new ≡ long_after system len string.now area.old }
     ensures area_unchanged { long_fits system len area.old ≡ false → area.new ≡ area.old }
 {
-    let rows = rows_of(system);
-    if rows == 0 {
+    let Some(rows) = rows_of(system) else {
         return false;
-    }
+    };
     if 1488 * rows < len {
         return false;
     }
