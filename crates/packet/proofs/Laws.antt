@@ -237,18 +237,18 @@ unfolding judged words_fault word_at flag_word
 one_none [] h = refl
 one_none (w ∷ s) h = absurd (omega arith)
 
-module _ (s : List ℕ) (n : ℕ) (e : n ≡ words_fault s) where
-  pub one-refused : (w : ℕ) → (n ≡ 0 → ⊥) → w ≡ word_at n s → record { number = n; word = w; kind = 0 } ≡ judged s
+module _ (s : List ℕ) where
+  pub one-refused : eqb (words_fault s) 0 ≡ false → record { number = words_fault s; word = word_at (words_fault s) s; kind = 0 } ≡ judged s
   unfolding judged
-  one-refused w z f =
-      rw (ne_eqb (words_fault s) 0 (λ q. z (e ∙ q)), f) (ap (λ (m : ℕ). record { number = m; word = word_at m s; kind = 0 }) e)
+  one-refused z = rw z
 
-  pub one-sound : (kind : ℕ) → n ≡ 0 → kind ≡ type_of (get_or s 3 0 % 256) → record { number = 0; word = 0; kind = kind } ≡ judged s
+  pub one-sound : (kind : ℕ) → eqb (words_fault s) 0 ≡ true → kind ≡ type_of (get_or s 3 0 % 256)
+      → record { number = 0; word = 0; kind = kind } ≡ judged s
   unfolding judged word_at
-  one-sound kind z k = rw (sym e ∙ z, k)
+  one-sound kind z k = rw (eqb-true (words_fault s) 0 z, k)
 
-  pub one-long : n ≡ 0 → 3 < length s
-  one-long z = let l = fault-long s (sym e ∙ z) in omega arith
+  pub one-long : eqb (words_fault s) 0 ≡ true → 3 < length s
+  one-long z = let l = fault-long s (eqb-true (words_fault s) 0 z) in omega arith
 
 -- ---- the packets before the one that is named
 

@@ -5,14 +5,15 @@
 -- Assumes nothing.
 use Prim.Native.Nat.{ℕ, zero, suc, ◌+◌, ◌-◌, ◌*◌, ◌/◌, ◌%◌, ◌≤◌, ◌<◌}
 use mathlib.Core.Path.{◌≡◌, refl, sym, ap, ap₂, ◌∙◌}
-use mathlib.Core.Bool.{Bool, true, false, cond, not}
+use mathlib.Core.Bool.{Bool, true, false, cond, not, ◌&&◌}
 use mathlib.Core.List.{List, [], ◌∷◌, map}
+use Rattle.std.proofs.Common.{Result, Ok, Err}
 use native.Mathlib.Nat.{zero-add, add-zero, sub-zero, le_refl}
 use native.Mathlib.Numerals.{add-one, add-three, add_seven}
 use native.Mathlib.Omega.{arith}
-use lib.Dec.{eqb, leb}
+use lib.Dec.{eqb, leb, ltb}
 use lib.ListN.{length, get_or, take, drop, length-drop, length-map, drop_of_length-le}
-use lib.Seq.{length-take-le, take_all, take-take, drop-drop, get_or-drop, get_or-take}
+use lib.Seq.{length-take-le, take_all, take-add, take-take, drop-drop, get_or-drop, get_or-take}
 use borrow.Author.Tests.{leb-true, leb-false, le-ltb, eqb-true, eqb-false, ne_eqb}
 use Rattle.rules.specs.Base.{sum}
 use Rattle.rules.specs.Packet.{Packet, check}
@@ -20,39 +21,37 @@ use Rattle.rules.specs.Danc.{bytes_of, string_byte_count}
 use Rattle.rules.specs.Packing1.{packs_of}
 use Rattle.rules.specs.Numbers.{Outcome, listed, refused, also, Row, packets_in}
 use Rattle.rules.specs.Laying.{are_words, flagged, low, dc_in, words_fault, packet_of_words, no_words, word_row, packets_of_words}
-use Rattle.rules.specs.Lister.{tested_of}
-use Rattle.rules.specs.declared.Tested.{Tested}
-use Rattle.rules.proofs.Basics.{rest_part}
-use Rattle.rules.proofs.Words.{fault-long, words-enough}
-use Rattle.packet.specs.Run.{counted}
+use Rattle.rules.specs.Laying.{is_word, words_before, flag_word, word_at, from_packet}
+use Rattle.rules.specs.Refusals.{Told, tell}
+use Rattle.rules.proofs.Basics.{rest_part, drop-take}
+use Rattle.rules.proofs.Words.{words_append, fault-long, words-enough}
+use Rattle.packet.specs.Told.{counts_of, told_by}
+use Rattle.packet.specs.declared.Counts.{Counts}
 
--- ---- the figures of packets
+-- ---- what packets come to
 
--- the figures of some packets, and those of a list behind them
-abbrev pub add_to : ℕ → ℕ → ℕ → ℕ → Outcome → Tested
-add_to sys k at packs (listed ps) = counted sys (k + length ps) (at + string_byte_count ps) (packs + sum (map packs_of ps))
-add_to sys k at packs (refused n i) = tested_of sys (refused n i)
+-- some packets, and those of a list behind them
+abbrev pub add_to : ℕ → ℕ → ℕ → List Packet → Counts
+add_to k at packs ps = record { packets = k + length ps; bytes = at + string_byte_count ps; packs = packs + sum (map packs_of ps) }
 
--- the words from a place on, with the packets in front of them: what is left of the whole
-abbrev pub whole_from : ℕ → ℕ → ℕ → ℕ → List ℕ → Tested
-whole_from sys k at packs ws = add_to sys k at packs (packets_in word_row (length ws - at) k (drop at ws))
+module _ (word : ℕ → List ℕ → ℕ) (ws : List ℕ) where
+  add_nothing : (o : Outcome) → told_by word (add_to 0 0 0) ws o ≡ told_by word counts_of ws o
+  add_nothing (listed ps) = simp zero-add
+  add_nothing (refused n i) = refl
 
-add_nothing : (sys : ℕ) (o : Outcome) → add_to sys 0 0 0 o ≡ tested_of sys o
-add_nothing sys (listed ps) = simp zero-add
-add_nothing sys (refused n i) = refl
+  add-also : (k at packs : ℕ) (p : Packet) (o : Outcome)
+      → told_by word (add_to k at packs) ws (also p o) ≡ told_by word (add_to (k + 1) (at + bytes_of p) (packs + packs_of p)) ws o
+  add-also k at packs p (refused n i) = refl
+  add-also k at packs p (listed ps) =
+      let a : k + suc (length ps) ≡ k + 1 + length ps = omega arith in
+      let b : at + (bytes_of p + string_byte_count ps) ≡ at + bytes_of p + string_byte_count ps = omega arith in
+      let c : packs + (packs_of p + sum (map packs_of ps)) ≡ packs + packs_of p + sum (map packs_of ps) = omega arith in
+      λ i. Ok (record { packets = a i; bytes = b i; packs = c i })
 
-pub at_first : (sys : ℕ) (ws : List ℕ) → whole_from sys 0 0 0 ws ≡ tested_of sys (packets_of_words ws)
-unfolding packets_of_words
-at_first sys ws = rw (sub-zero (length ws)) (add_nothing sys (packets_of_words ws))
-
-add-also : (sys k at packs : ℕ) (p : Packet) (o : Outcome)
-    → add_to sys k at packs (also p o) ≡ add_to sys (k + 1) (at + bytes_of p) (packs + packs_of p) o
-add-also sys k at packs p (refused n i) = refl
-add-also sys k at packs p (listed ps) =
-    let a : k + suc (length ps) ≡ k + 1 + length ps = omega arith in
-    let b : at + (bytes_of p + string_byte_count ps) ≡ at + bytes_of p + string_byte_count ps = omega arith in
-    let c : packs + (packs_of p + sum (map packs_of ps)) ≡ packs + packs_of p + sum (map packs_of ps) = omega arith in
-    λ i. counted sys (a i) (b i) (c i)
+-- the words behind a packet more
+pub from-next : (k : ℕ) (ws : List ℕ) → from_packet (suc k) ws ≡ drop (dc_in (from_packet k ws) + 7) (from_packet k ws)
+from-next zero ws = refl
+from-next (suc k) ws = from-next k (drop (dc_in ws + 7) ws)
 
 -- the words that are lent from a place on
 abbrev pub lent : ℕ → List ℕ → List ℕ
@@ -140,29 +139,44 @@ module _ (fault : List ℕ → ℕ) (packet : List ℕ → Packet) where
           front-fine w (length ws - at) k s (omega arith) (omega arith) row_fine
           ∙ (λ i. also (packet s) (packets_in row_of (n i) (k + 1) (t i)))
 
--- ---- the figures of packets back to back
+-- ---- what packets back to back tell
 
 word-long : Long words_fault packet_of_words
 unfolding word_row
 word-long = record { long = fault-long; enough = words-enough }
 
-pub no-packets : (sys : ℕ) (ws : List ℕ) → length ws ≡ 0 → counted sys 0 0 0 ≡ tested_of sys (packets_of_words ws)
+-- the words from a place on, with the packets in front of them: what is left of the whole
+abbrev pub whole_from : ℕ → ℕ → ℕ → List ℕ → Result Counts Told
+whole_from k at packs ws = told_by word_at (add_to k at packs) ws (packets_in word_row (length ws - at) k (drop at ws))
+
+-- what all of them tell
+abbrev pub told_packets : List ℕ → Result Counts Told
+told_packets ws = told_by word_at counts_of ws (packets_of_words ws)
+
+pub at_first : (ws : List ℕ) → whole_from 0 0 0 ws ≡ told_packets ws
+unfolding packets_of_words
+at_first ws = rw (sub-zero (length ws)) (add_nothing word_at ws (packets_of_words ws))
+
+pub no-packets : (ws : List ℕ) → length ws ≡ 0 → Ok (record { packets = 0; bytes = 0; packs = 0 }) ≡ told_packets ws
 unfolding packets_of_words word_row
-no-packets sys [] h = refl
-no-packets sys (w ∷ ws) h = absurd (omega arith)
+no-packets [] h = refl
+no-packets (w ∷ ws) h = absurd (omega arith)
 
 -- no packet is left
-pub at-end : (sys k at packs : ℕ) (ws : List ℕ) → length ws ≤ at → counted sys k at packs ≡ whole_from sys k at packs ws
+pub at-end : (k at packs : ℕ) (ws : List ℕ) → length ws ≤ at → Ok (record { packets = k; bytes = at; packs = packs }) ≡ whole_from k at packs ws
 unfolding word_row
-at-end sys k at packs ws h = rw (row-end words_fault packet_of_words at ws k h) (simp add-zero)
+at-end k at packs ws h = rw (row-end words_fault packet_of_words at ws k h) (simp add-zero)
 
 -- a place, and the words that are lent from there on
 module _ (at : ℕ) (ws : List ℕ) where
-  -- "the first at fault is named"
-  pub at-fault : (f : ℕ) → at < length ws → f ≡ words_fault (lent at ws) → eqb (words_fault (lent at ws)) 0 ≡ false
-      → (sys k packs : ℕ) → tested_of 0 (refused f k) ≡ whole_from sys k at packs ws
+  -- "the first at fault is named", and its word
+  pub at-fault : (k packs : ℕ) → at < length ws → eqb (words_fault (lent at ws)) 0 ≡ false → from_packet k ws ≡ drop at ws
+      → Err (tell (words_fault (lent at ws)) k (word_at (words_fault (lent at ws)) (lent at ws))) ≡ whole_from k at packs ws
   unfolding word_row
-  at-fault f h e g sys k packs = sym (ap (add_to sys k at packs) (row-stop words_fault packet_of_words at ws f k h e g))
+  at-fault k packs h g e =
+      let f : ℕ = words_fault (lent at ws) in
+      rw (row-stop words_fault packet_of_words at ws f k h refl g)
+      (ap (λ (v : List ℕ). Err (tell f k (word_at f v))) (rest_part at ws ∙ sym e))
 
   module _ (z : eqb (words_fault (lent at ws)) 0 ≡ true) where
     -- all its words are there
@@ -170,10 +184,10 @@ module _ (at : ℕ) (ws : List ℕ) where
     all_there = row-there words_fault packet_of_words at ws word-long z
 
     -- one packet more; the two packs of each that have no user bytes are counted apart
-    pub at_next : (dc : ℕ) → dc ≡ get_or ws (at + 5) 0 % 256 → (sys k packs : ℕ)
-        → whole_from sys (k + 1) (at + (dc + 7)) (packs + (dc + 3) / 4 + 2 * (k + 1)) ws ≡ whole_from sys k at (packs + 2 * k) ws
+    pub at_next : (dc : ℕ) → dc ≡ get_or ws (at + 5) 0 % 256 → (k packs : ℕ)
+        → whole_from (k + 1) (at + (dc + 7)) (packs + (dc + 3) / 4 + 2 * (k + 1)) ws ≡ whole_from k at (packs + 2 * k) ws
     unfolding word_row
-    at_next dc e sys k packs =
+    at_next dc e k packs =
         let s : List ℕ = drop at ws in
         let d : dc_in s ≡ dc = row-dc words_fault packet_of_words at ws word-long z ∙ sym e in
         let long : dc_in s + 7 ≤ length s = fault-long s (row_fine words_fault packet_of_words at ws word-long z) in
@@ -184,9 +198,16 @@ module _ (at : ℕ) (ws : List ℕ) where
         ap (λ (n : ℕ). packs + 2 * k + (1 + (1 + (n + 3) / 4))) u ∙ (omega arith) in
         let later : Outcome = packets_in word_row (length ws - (at + (dc + 7))) (k + 1) (drop (at + (dc + 7)) ws) in
         sym
-        (ap (add_to sys k at (packs + 2 * k)) (row_next words_fault packet_of_words at ws word-long z dc k e)
-        ∙ add-also sys k at (packs + 2 * k) (packet_of_words s) later
-        ∙ (λ i. add_to sys (k + 1) (a i) (b i) later))
+        (ap (told_by word_at (add_to k at (packs + 2 * k)) ws) (row_next words_fault packet_of_words at ws word-long z dc k e)
+        ∙ add-also word_at ws k at (packs + 2 * k) (packet_of_words s) later
+        ∙ (λ i. told_by word_at (add_to (k + 1) (a i) (b i)) ws later))
+
+    -- and its place
+    pub place_next : (dc k : ℕ) → dc ≡ get_or ws (at + 5) 0 % 256 → from_packet k ws ≡ drop at ws
+        → from_packet (k + 1) ws ≡ drop (at + (dc + 7)) ws
+    place_next dc k e f =
+        let d : dc_in (drop at ws) ≡ dc = row-dc words_fault packet_of_words at ws word-long z ∙ sym e in
+        rw (add-one k, from-next k ws, f, d) (drop-drop (dc + 7) at ws)
 
 -- ---- a packet and what follows it
 
@@ -242,27 +263,131 @@ some-taken n [] h = absurd (omega arith)
 some-taken n (x ∷ s) h = rw (add_seven n) (omega arith)
 
 -- the words of a packet, as far as they are there, tested as packets back to back
-pub one_number : (s part : List ℕ) (t : Tested) → 0 < length s → part ≡ take (dc_in s + 7) s → t ≡ tested_of 0 (packets_of_words part)
-    → t.number ≡ words_fault s
-unfolding packets_of_words word_row
-one_number s part t h e q = ap (λ (x : Tested). x.number) q ∙ go (eqb (words_fault part) 0) refl ∙ ap words_fault e ∙ cut-fault s
+module _ (s part : List ℕ) (h : 0 < length s) (e : part ≡ take (dc_in s + 7) s) where
+  one_outcome : packets_of_words part ≡ cond (eqb (words_fault s) 0) (listed (packet_of_words part ∷ [])) (refused (words_fault s) 0)
+  unfolding packets_of_words word_row
+  one_outcome = go (eqb (words_fault part) 0) refl ∙ ap (λ (f : ℕ). cond (eqb f 0) (listed (packet_of_words part ∷ [])) (refused f 0)) same
+    where
+      same : words_fault part ≡ words_fault s
+      same = ap words_fault e ∙ cut-fault s
+
+      dc : dc_in part ≡ dc_in s
+      dc = ap dc_in e ∙ ap low (get_or-take (dc_in s + 7) s 5 0 (omega arith))
+
+      none : drop (dc_in part + 7) part ≡ []
+      none = ap₂ (λ (n : ℕ) (u : List ℕ). drop (n + 7) u) dc e ∙ drop-taken (dc_in s + 7) s
+
+      some : 0 < length part
+      some = let l = some-taken (dc_in s) s h in let m : length part ≡ length (take (dc_in s + 7) s) = ap length e in omega arith
+
+      go : (b : Bool) → eqb (words_fault part) 0 ≡ b
+          → packets_in word_row (length part) 0 part ≡ cond (eqb (words_fault part) 0) (listed (packet_of_words part ∷ [])) (refused (words_fault part) 0)
+      go true z =
+          rw (
+            z,
+            front-fine words_fault packet_of_words word-long (length part) 0 part some (le_refl (length part)) (eqb-true (words_fault part) 0 z),
+            none,
+            front-none words_fault packet_of_words (length part - (dc_in part + 7)) (0 + 1),
+          )
+      go false z = rw (z, front-fault words_fault packet_of_words (length part) 0 part some some (eqb-false (words_fault part) 0 z))
+
+  -- which is refused where the packet is at fault
+  pub one_refused : {A : Type 0} (f : List Packet → A) (t : Told) → Err t ≡ told_by word_at f part (packets_of_words part)
+      → (eqb (words_fault s) 0 ≡ false) × (t ≡ tell (words_fault s) 0 (word_at (words_fault s) part))
+  one_refused f t q = go (eqb (words_fault s) 0) refl (q ∙ ap (told_by word_at f part) one_outcome)
+    where
+      go : (b : Bool) → eqb (words_fault s) 0 ≡ b
+          → Err t ≡ told_by word_at f part (cond b (listed (packet_of_words part ∷ [])) (refused (words_fault s) 0))
+          → (eqb (words_fault s) 0 ≡ false) × (t ≡ tell (words_fault s) 0 (word_at (words_fault s) part))
+      go true z w = absurd (cc)
+      go false z w = (z, cc)
+
+  pub one_listed : {A : Type 0} (f : List Packet → A) (a : A) → Ok a ≡ told_by word_at f part (packets_of_words part) → eqb (words_fault s) 0 ≡ true
+  one_listed f a q = go (eqb (words_fault s) 0) refl (q ∙ ap (told_by word_at f part) one_outcome)
+    where
+      go : (b : Bool) → eqb (words_fault s) 0 ≡ b
+          → Ok a ≡ told_by word_at f part (cond b (listed (packet_of_words part ∷ [])) (refused (words_fault s) 0))
+          → eqb (words_fault s) 0 ≡ true
+      go true z w = z
+      go false z w = absurd (cc)
+
+-- ---- the word of one packet
+
+before-cut : (k : ℕ) (t : List ℕ) → are_words (take k t) ≡ false → words_before (take k t) ≡ words_before t
+before-cut zero t e = absurd (cc)
+before-cut (suc k) [] e = refl
+before-cut (suc k) (w ∷ t) e = go (is_word w) (before-cut k t) e
   where
-    dc : dc_in part ≡ dc_in s
-    dc = ap dc_in e ∙ ap low (get_or-take (dc_in s + 7) s 5 0 (omega arith))
+    go : (b : Bool) → (are_words (take k t) ≡ false → words_before (take k t) ≡ words_before t) → (b && are_words (take k t)) ≡ false
+        → cond b (suc (words_before (take k t))) 0 ≡ cond b (suc (words_before t)) 0
+    go true h e = ap suc (h e)
+    go false h e = refl
 
-    none : drop (dc_in part + 7) part ≡ []
-    none = ap₂ (λ (n : ℕ) (u : List ℕ). drop (n + 7) u) dc e ∙ drop-taken (dc_in s + 7) s
+more-wrong : (k m : ℕ) (t : List ℕ) → are_words (take k t) ≡ false → are_words (take (k + m) t) ≡ false
+more-wrong k m t e = rw (take-add k m t, words_append (take k t) (take m (drop k t)), e)
 
-    some : 0 < length part
-    some = let l = some-taken (dc_in s) s h in let m : length part ≡ length (take (dc_in s + 7) s) = ap length e in omega arith
+-- a wrong word is found in the packet's own words
+own-wrong : (s : List ℕ) (k : ℕ) → k ≤ dc_in s + 4 → are_words (take k (drop 3 s)) ≡ false
+    → words_before (drop 3 (take (dc_in s + 7) s)) ≡ words_before (drop 3 s)
+own-wrong s k h e =
+    let n : dc_in s + 7 - 3 ≡ k + (dc_in s + 4 - k) = omega arith in
+    rw (drop-take 3 (dc_in s + 7) s, n) (before-cut (k + (dc_in s + 4 - k)) (drop 3 s) (more-wrong k (dc_in s + 4 - k) (drop 3 s) e))
 
-    go : (b : Bool) → eqb (words_fault part) 0 ≡ b → (tested_of 0 (packets_in word_row (length part) 0 part)).number ≡ words_fault part
-    go true z =
-        let f : words_fault part ≡ 0 = eqb-true (words_fault part) 0 z in
-        rw (
-          front-fine words_fault packet_of_words word-long (length part) 0 part some (le_refl (length part)) f,
-          none,
-          front-none words_fault packet_of_words (length part - (dc_in part + 7)) (0 + 1),
-        )
-        (sym f)
-    go false z = rw (front-fault words_fault packet_of_words (length part) 0 part some some (eqb-false (words_fault part) 0 z))
+own-flag : (s : List ℕ) (n : ℕ) → flagged s ≡ false → flag_word (take (n + 7) s) ≡ flag_word s
+unfolding flag_word
+own-flag [] n e = rw (add_seven n)
+own-flag (a ∷ []) n e = rw (add_seven n)
+own-flag (a ∷ b ∷ []) n e = rw (add_seven n)
+own-flag (a ∷ b ∷ c ∷ s) n e = rw (add_seven n) (go (eqb a 0x000) (eqb b 0x3FF) (eqb c 0x3FF) e)
+  where
+    go : (x y z : Bool) → (x && (y && z)) ≡ false
+        → (let m : ℕ = cond x (suc (cond y (suc (cond z 1 0)) 0)) 0 in cond (ltb m 3) m (suc (suc (suc (length (take (suc (suc (suc (suc n)))) s))))))
+        ≡ (let m : ℕ = cond x (suc (cond y (suc (cond z 1 0)) 0)) 0 in cond (ltb m 3) m (suc (suc (suc (length s)))))
+    go false y z e = refl
+    go true false z e = refl
+    go true true false e = refl
+    go true true true e = absurd (cc)
+
+-- the number of a fault, by the tests of a packet that has all its words
+abbrev fault_from : Bool → Bool → Bool → Bool → ℕ
+fault_from f h u r = cond (not f) 7 (cond (not h) 8 (cond (not u) 8 (cond (not r) 10 0)))
+
+-- what stands behind a packet is nothing to the word that its fault names
+module _ (s : List ℕ) where
+  abbrev part : List ℕ
+  part = take (dc_in s + 7) s
+
+  abbrev heads : Bool
+  heads = are_words (take 3 (drop 3 s))
+
+  abbrev user : Bool
+  user = are_words (take (dc_in s) (drop 6 s))
+
+  abbrev right : Bool
+  right = eqb (get_or s (dc_in s + 6) 0) (check (take (dc_in s + 3) (drop 3 s)))
+
+  fault-is : dc_in s + 7 < length s → words_fault s ≡ fault_from (flagged s) heads user right
+  unfolding words_fault
+  fault-is h = rw (le-ltb (length s) 7 (omega arith), le-ltb (length s) (dc_in s + 7) (omega arith))
+
+  user-wrong : heads ≡ true → user ≡ false → are_words (take (3 + dc_in s) (drop 3 s)) ≡ false
+  user-wrong h u = rw (take-add 3 (dc_in s) (drop 3 s), drop-drop 3 3 s, words_append (take 3 (drop 3 s)) (take (dc_in s) (drop 6 s)), h, u)
+
+  same-dc : dc_in part ≡ dc_in s
+  same-dc = ap low (get_or-take (dc_in s + 7) s 5 0 (omega arith))
+
+  same : (f h u r : Bool) → flagged s ≡ f → heads ≡ h → user ≡ u → word_at (fault_from f h u r) part ≡ word_at (fault_from f h u r) s
+  unfolding word_at
+  same false h u r e i j = own-flag s (dc_in s) e
+  same true false u r e i j = ap (λ (n : ℕ). 3 + n) (own-wrong s 3 (omega arith) i)
+  same true true false r e i j = ap (λ (n : ℕ). 3 + n) (own-wrong s (3 + dc_in s) (omega arith) (user-wrong i j))
+  same true true true false e i j = ap (λ (n : ℕ). n + 6) same-dc
+  same true true true true e i j = refl
+
+  pub cut-word : word_at (words_fault s) part ≡ word_at (words_fault s) s
+  cut-word = go (leb (length s) (dc_in s + 7)) refl
+    where
+      go : (x : Bool) → leb (length s) (dc_in s + 7) ≡ x → word_at (words_fault s) part ≡ word_at (words_fault s) s
+      go true q = ap (word_at (words_fault s)) (take_all (dc_in s + 7) s (leb-true (length s) (dc_in s + 7) q))
+      go false q =
+          rw (fault-is (leb-false (length s) (dc_in s + 7) q)) (same (flagged s) heads user right refl refl refl)

@@ -1,2 +1,3 @@
--- What a pass over the words of a packet finds.
+-- What a pass over the words of a packet finds, and what the tests of packets back to back tell.
 pub mod Run
+pub mod Told

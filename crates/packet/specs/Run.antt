@@ -3,7 +3,6 @@
 use Rattle.std.specs.Prelude.{ℕ, zero, suc, ◌+◌, ◌-◌, ◌*◌, ◌/◌, ◌%◌, ◌≤◌, ◌≡◌, true, List, [], ◌∷◌, length, take, drop}
 use Rattle.rules.specs.Packet.{word, sum9}
 use Rattle.rules.specs.Laying.{are_words, dc_in}
-use Rattle.rules.specs.declared.Tested.{Tested}
 use Rattle.packet.specs.declared.Pass.{Pass}
 use Rattle.packet.specs.declared.Run.{Run}
 
@@ -32,10 +31,6 @@ word_table = words_from 0 256
 pub record Passed (table ws : List ℕ) (r : Pass) : Type 0 where
   pub words : table ≡ word_table → r.words ≡ are_words ws
   pub sum : r.words ≡ true → r.sum ≡ sum9 ws
-
--- what the tests give back of packets without a fault: so many, their string bytes, their packs
-abbrev pub counted : ℕ → ℕ → ℕ → ℕ → Tested
-counted sys k bytes packs = record { number = 0; place = 0; word = 0; system = sys; packets = k; bytes = bytes; packs = packs }
 
 -- how many words the packet in front takes, DC + 7, as far as there are so many: it is these, and the others stand behind it
 pub record SizeOf (s : List ℕ) (n : ℕ) : Type 0 where

@@ -4,13 +4,13 @@
 
 ghost use Rattle.std.specs.Prelude.{◌≡◌, ◌+◌, ◌-◌, ◌*◌, ◌/◌, ◌%◌, ◌≤◌, ◌<◌, false, not, ◌||◌, eqb, ltb, length, drop};
 ghost use Rattle.rules.specs.Packet.{word, check};
-ghost use Rattle.rules.specs.Numbers.{refused};
-ghost use Rattle.rules.specs.Laying.{is_word, flagged, words_fault, packets_of_words, dc_in, words_before, flag_word, word_at, from_packet, type_of};
-ghost use Rattle.rules.specs.Lister.{tested_of};
+ghost use Rattle.rules.specs.Laying.{is_word, flagged, words_fault, packets_of_words, dc_in, words_before, flag_word, word_at, type_of, judged};
+ghost use Rattle.rules.specs.Refusals.{number, tell, told, told_of};
 ghost use Rattle.rules.specs.Demands.{Judges};
-ghost use Rattle.packet.specs.Run.{pass_of, run_of, check_sum, word_table, Passed, counted, SizeOf};
+ghost use Rattle.packet.specs.Run.{pass_of, run_of, check_sum, word_table, Passed, SizeOf};
+ghost use Rattle.packet.specs.Told.{counts_of, told_by, kind_number, judged_of};
 
-use rules::{Judged, Tested};
+use rules::{Judged, Refusal, Refused};
 
 mod table;
 
@@ -182,34 +182,12 @@ fn pass_by(table: &[u16; 256], ws: &[u16]) -> Pass
     pass_of(ws)
 }
 
-// "On refusal the later figures are 0".
-fn refusal(number: u64, place: u64) -> Tested
-    ensures { result ≡ tested_of 0 (refused number place) }
-{
-    Tested {
-        number,
-        place,
-        word: 0,
-        system: 0,
-        packets: 0,
-        bytes: 0,
-        packs: 0,
-    }
-}
-
-// The figures of packets without a fault.
-fn passed(system: u64, packets: u64, bytes: u64, packs: u64) -> Tested
-    ensures { result ≡ counted system packets bytes packs }
-{
-    Tested {
-        number: 0,
-        place: 0,
-        word: 0,
-        system,
-        packets,
-        bytes,
-        packs,
-    }
+// What packets back to back come to: how many they are, their string bytes, their packs in packing 1.
+#[derive(Clone, Copy, PartialEq, Eq)]
+pub struct Counts {
+    pub packets: usize,
+    pub bytes: usize,
+    pub packs: usize,
 }
 
 // "7 | fewer than 7 words left, or no 000h 3FFh 3FFh" (document 01): whether neither holds.
@@ -284,54 +262,29 @@ pub fn size_of(ws: &[u16]) -> usize
     n
 }
 
-// The number of the first fault of the packet that the words begin with, in document 01's order, where it has one. It is asked once, of the packet
-// that is not sound, and needs no speed: the packet's first wrong word says whether DID, SDID and DC are right, and then the user words. The
-// passes are left to `is_sound` alone, so that they become part of its code. What is left is CS.
-fn fault_of(ws: &[u16]) -> u64
+// The first fault of the packet that the words begin with, in document 01's order, where it has one. It is asked once, of the packet that is not
+// sound, and needs no speed: the packet's first wrong word says whether DID, SDID and DC are right, and then the user words. The passes are left to
+// `is_sound` alone, so that they become part of its code. What is left is CS.
+fn fault_of(ws: &[u16]) -> Refusal
     requires { eqb (words_fault ws.now) 0 ≡ false }
-    ensures { result ≡ words_fault ws.now }
+    ensures { number result ≡ words_fault ws.now }
 {
     if !is_flagged(ws) {
-        return 7;
+        return Refusal::Flag;
     }
     let cs = low_byte(ws[5]) + 6;
     let n = size_of(ws);
     let wrong = wrong_word(&ws[..n]);
     if wrong < 6 {
-        return 8;
+        return Refusal::Word;
     }
     if ws.len() <= cs {
-        return 9;
+        return Refusal::CutOff;
     }
     if wrong < cs {
-        return 8;
+        return Refusal::Word;
     }
-    10
-}
-
-// "Then packet by packet", "packets back to back": the first packet at fault, its word not yet looked for, or the figures of all of them.
-// "A DANC packet has as many bytes as its VANC packet has words, DC + 7." "A packet takes 2 + DC/4 packs, the quotient rounded up."
-// Many frames have no packets, and then no table is taken. The packet that ends the loop is behind the last word or at fault.
-pub fn packets(system: u64, ws: &[u16]) -> Tested
-    ensures { result ≡ tested_of system (packets_of_words ws.now) }
-{
-    if ws.len() == 0 {
-        return passed(system, 0, 0, 0);
-    }
-    let table = words();
-    let mut at = 0;
-    let mut k: u64 = 0;
-    let mut packs: u64 = 0;
-    while is_sound(&table, &ws[at..]) {
-        let dc = low_byte(ws[at + 5]);
-        packs += ((dc + 3) / 4) as u64;
-        at += dc + 7;
-        k += 1;
-    }
-    if at == ws.len() {
-        return passed(system, k, at as u64, packs + 2 * k);
-    }
-    refusal(fault_of(&ws[at..]), k)
+    Refusal::Checksum
 }
 
 // "the first wrong flag word, else the first missing word" (document 02, A2).
@@ -350,66 +303,120 @@ fn flag_word(ws: &[u16]) -> usize
     ws.len()
 }
 
-// The word that the number of a packet's fault names. CS stands behind DC and the user words.
-pub fn word_at(number: u64, ws: &[u16]) -> u64
-    ensures { result ≡ word_at number ws.now }
+// The word that a packet's fault names. CS stands behind DC and the user words.
+pub fn word_at(refusal: Refusal, ws: &[u16]) -> usize
+    ensures { result ≡ word_at (number refusal) ws.now }
 {
-    match number {
-        7 => flag_word(ws) as u64,
-        8 => wrong_word(ws) as u64,
-        9 => ws.len() as u64,
-        10 => dc_of(ws) as u64 + 6,
+    match refusal {
+        Refusal::Flag => flag_word(ws),
+        Refusal::Word => wrong_word(ws),
+        Refusal::CutOff => ws.len(),
+        Refusal::Checksum => dc_of(ws) + 6,
         _ => 0,
     }
 }
 
-// The word that a refusal names among packets back to back, where its place is the packet. It is looked for only once a packet is refused, and
-// apart from the loop that has tested the packets, so that those without a fault cost no more.
-pub fn word_named(number: u64, place: u64, ws: &[u16]) -> u64
-    ensures { result ≡ word_at number (from_packet place ws.now) }
+// What is told of the packet at fault, whose words are given: it is looked at once more only then, and apart from the loop that has tested the
+// packets, so that those without a fault cost no more.
+fn refused(place: usize, ws: &[u16]) -> Refused
+    requires { eqb (words_fault ws.now) 0 ≡ false }
+    ensures { told result ≡ tell (words_fault ws.now) place (word_at (words_fault ws.now) ws.now) }
 {
-    let mut at = 0;
-    let mut left = place;
-    while 0 < left {
-        at += size_of(&ws[at..]);
-        left -= 1;
+    let refusal = fault_of(ws);
+    Refused {
+        refusal,
+        place,
+        word: word_at(refusal, ws),
     }
-    word_at(number, &ws[at..])
+}
+
+// "Then packet by packet", "packets back to back": what all of them come to, or the first packet at fault.
+// "A DANC packet has as many bytes as its VANC packet has words, DC + 7." "A packet takes 2 + DC/4 packs, the quotient rounded up."
+// Many frames have no packets, and then no table is taken. The packet that ends the loop is behind the last word or at fault.
+pub fn packets(ws: &[u16]) -> Result<Counts, Refused>
+    ensures { told_of result ≡ told_by word_at counts_of ws.now (packets_of_words ws.now) }
+{
+    if ws.len() == 0 {
+        return Ok(Counts {
+            packets: 0,
+            bytes: 0,
+            packs: 0,
+        });
+    }
+    let table = words();
+    let mut at = 0;
+    let mut packets = 0;
+    let mut packs = 0;
+    while is_sound(&table, &ws[at..]) {
+        let dc = low_byte(ws[at + 5]);
+        packs += (dc + 3) / 4;
+        at += dc + 7;
+        packets += 1;
+    }
+    if at == ws.len() {
+        return Ok(Counts {
+            packets,
+            bytes: at,
+            packs: packs + 2 * packets,
+        });
+    }
+    Err(refused(packets, &ws[at..]))
 }
 
 // "Type 1 (DID 80h or above) or Type 2" (document 02, A2).
-fn type_of(did: u16) -> u64
-    ensures { result ≡ type_of (did % 256) }
+#[derive(Clone, Copy, PartialEq, Eq)]
+enum Kind {
+    One = 1,
+    Two = 2,
+}
+
+impl Kind {
+    fn number(self) -> u64
+        ensures { result ≡ kind_number self }
+    {
+        self as u64
+    }
+}
+
+fn type_of(did: u16) -> Kind
+    ensures { kind_number result ≡ type_of (did % 256) }
 {
     if did % 256 < 0x80 {
-        return 2;
+        return Kind::Two;
     }
-    1
+    Kind::One
 }
 
 // The test of one packet alone, which also says its type (document 02, A2). What stands behind the packet is not looked at.
+fn judge(ws: &[u16]) -> Result<Kind, Refused>
+    ensures { judged_of result ≡ judged ws.now }
+{
+    if ws.len() == 0 {
+        return Err(Refused {
+            refusal: Refusal::Flag,
+            place: 0,
+            word: 0,
+        });
+    }
+    let n = size_of(ws);
+    packets(&ws[..n])?;
+    Ok(type_of(ws[3]))
+}
+
+// The same as the C interface gives it back.
 pub fn fault(ws: &[u16]) -> Judged
     ensures { Judges ws.now result }
 {
-    if ws.len() == 0 {
-        return Judged {
-            number: 7,
+    match judge(ws) {
+        Ok(kind) => Judged {
+            number: 0,
             word: 0,
+            kind: kind.number(),
+        },
+        Err(e) => Judged {
+            number: e.refusal.number(),
+            word: e.word as u64,
             kind: 0,
-        };
-    }
-    let n = size_of(ws);
-    let t = packets(0, &ws[..n]);
-    if t.number != 0 {
-        return Judged {
-            number: t.number,
-            word: word_at(t.number, ws),
-            kind: 0,
-        };
-    }
-    Judged {
-        number: 0,
-        word: 0,
-        kind: type_of(ws[3]),
+        },
     }
 }
