@@ -25,8 +25,9 @@ use Rattle.rules.specs.Laying.{is_word, words_before, flag_word, word_at, from_p
 use Rattle.rules.specs.Refusals.{Told, tell}
 use Rattle.rules.proofs.Basics.{rest_part, drop-take}
 use Rattle.rules.proofs.Words.{words_append, fault-long, words-enough}
-use Rattle.packet.specs.Told.{counts_of, told_by}
+use Rattle.packet.specs.Tests.{row_of, packets_by, counts_of, told_by, WordLaws}
 use Rattle.packet.specs.declared.Counts.{Counts}
+use Rattle.packet.specs.SoundWords.{sound_words}
 
 -- ---- what packets come to
 
@@ -57,35 +58,27 @@ from-next (suc k) ws = from-next k (drop (dc_in ws + 7) ws)
 abbrev pub lent : ℕ → List ℕ → List ℕ
 lent at ws = take (length ws - at) (drop at ws)
 
--- ---- a row of words, whatever the tests of a packet and the packet that it shows, where one without a fault has all its words
+-- ---- a row of words, in either way of testing them
 
-module _ (fault : List ℕ → ℕ) (packet : List ℕ → Packet) where
-  abbrev pub row_of : Row ℕ
-  row_of = record { ends = no_words; fault = fault; packet = packet; rest = λ (s : List ℕ). drop (dc_in s + 7) s }
-
-  -- what is needed of the tests
-  pub record Long : Type 0 where
-    pub long : (s : List ℕ) → fault s ≡ 0 → dc_in s + 7 ≤ length s
-    pub enough : (f g i : ℕ) (s : List ℕ) → length s ≤ f → length s ≤ g → packets_in row_of f i s ≡ packets_in row_of g i s
-
+module _ (fault : List ℕ → ℕ) (packet : List ℕ → Packet) (word : ℕ → List ℕ → ℕ) where
   -- the packet at the front of some words, and those after it
   front : (left i : ℕ) (s : List ℕ) → 0 < length s
-      → packets_in row_of (suc left) i s
-      ≡ cond (eqb (fault s) 0) (also (packet s) (packets_in row_of left (suc i) (drop (dc_in s + 7) s))) (refused (fault s) i)
+      → packets_in (row_of fault packet) (suc left) i s
+      ≡ cond (eqb (fault s) 0) (also (packet s) (packets_in (row_of fault packet) left (suc i) (drop (dc_in s + 7) s))) (refused (fault s) i)
   front left i [] h = absurd (omega arith)
   front left i (w ∷ s) h = refl
 
-  pub front-fault : (left i : ℕ) (s : List ℕ) → 0 < length s → 0 < left → (fault s ≡ 0 → ⊥) → packets_in row_of left i s ≡ refused (fault s) i
+  pub front-fault : (left i : ℕ) (s : List ℕ) → 0 < length s → 0 < left → (fault s ≡ 0 → ⊥) → packets_in (row_of fault packet) left i s ≡ refused (fault s) i
   front-fault zero i s h l f = absurd (omega arith)
   front-fault (suc left) i s h l f = front left i s h ∙ rw (ne_eqb (fault s) 0 f)
 
-  pub front-none : (left i : ℕ) → packets_in row_of left i [] ≡ listed []
+  pub front-none : (left i : ℕ) → packets_in (row_of fault packet) left i [] ≡ listed []
   front-none zero i = refl
   front-none (suc left) i = refl
 
-  module _ (w : Long) where
+  module _ (w : WordLaws fault packet word) where
     pub front-fine : (left i : ℕ) (s : List ℕ) → 0 < length s → length s ≤ left → fault s ≡ 0
-        → packets_in row_of left i s ≡ also (packet s) (packets_in row_of (left - (dc_in s + 7)) (i + 1) (drop (dc_in s + 7) s))
+        → packets_in (row_of fault packet) left i s ≡ also (packet s) (packets_in (row_of fault packet) (left - (dc_in s + 7)) (i + 1) (drop (dc_in s + 7) s))
     front-fine zero i s h l f = absurd (omega arith)
     front-fine (suc left) i s h l f =
         let k = length-drop (dc_in s + 7) s in
@@ -100,7 +93,7 @@ module _ (fault : List ℕ → ℕ) (packet : List ℕ → Packet) where
   -- the packets from a place on
   module _ (at : ℕ) (ws : List ℕ) where
     abbrev pub packets_from : ℕ → Outcome
-    packets_from k = packets_in row_of (length ws - at) k (drop at ws)
+    packets_from k = packets_in (row_of fault packet) (length ws - at) k (drop at ws)
 
     -- no packet is left
     pub row-end : (k : ℕ) → length ws ≤ at → packets_from k ≡ listed []
@@ -114,7 +107,7 @@ module _ (fault : List ℕ → ℕ) (packet : List ℕ → Packet) where
         front-fault (length ws - at) k (drop at ws) (omega arith) (omega arith) (λ z. eqb-false (fault (lent at ws)) 0 g (sym e ∙ is ∙ z))
         ∙ ap (λ (n : ℕ). refused n k) (sym is)
 
-    module _ (w : Long) (z : eqb (fault (lent at ws)) 0 ≡ true) where
+    module _ (w : WordLaws fault packet word) (z : eqb (fault (lent at ws)) 0 ≡ true) where
       pub row_fine : fault (drop at ws) ≡ 0
       row_fine = ap fault (sym (rest_part at ws)) ∙ eqb-true (fault (lent at ws)) 0 z
 
@@ -127,7 +120,7 @@ module _ (fault : List ℕ → ℕ) (packet : List ℕ → Packet) where
 
       -- one packet more
       pub row_next : (dc k : ℕ) → dc ≡ get_or ws (at + 5) 0 % 256
-          → packets_from k ≡ also (packet (drop at ws)) (packets_in row_of (length ws - (at + (dc + 7))) (k + 1) (drop (at + (dc + 7)) ws))
+          → packets_from k ≡ also (packet (drop at ws)) (packets_in (row_of fault packet) (length ws - (at + (dc + 7))) (k + 1) (drop (at + (dc + 7)) ws))
       row_next dc k e =
           let s : List ℕ = drop at ws in
           let l : length s ≡ length ws - at = length-drop at ws in
@@ -137,77 +130,64 @@ module _ (fault : List ℕ → ℕ) (packet : List ℕ → Packet) where
           let t : drop (dc_in s + 7) s ≡ drop (at + (dc + 7)) ws =
           drop-drop (dc_in s + 7) at ws ∙ ap (λ (m : ℕ). drop (at + (m + 7)) ws) d in
           front-fine w (length ws - at) k s (omega arith) (omega arith) row_fine
-          ∙ (λ i. also (packet s) (packets_in row_of (n i) (k + 1) (t i)))
+          ∙ (λ i. also (packet s) (packets_in (row_of fault packet) (n i) (k + 1) (t i)))
 
 -- ---- what packets back to back tell
 
-word-long : Long words_fault packet_of_words
-unfolding word_row
-word-long = record { long = fault-long; enough = words-enough }
+  -- the words from a place on, with the packets in front of them: what is left of the whole
+  abbrev pub whole_from : ℕ → ℕ → ℕ → List ℕ → Result Counts Told
+  whole_from k at packs ws = told_by word (add_to k at packs) ws (packets_in (row_of fault packet) (length ws - at) k (drop at ws))
 
--- the words from a place on, with the packets in front of them: what is left of the whole
-abbrev pub whole_from : ℕ → ℕ → ℕ → List ℕ → Result Counts Told
-whole_from k at packs ws = told_by word_at (add_to k at packs) ws (packets_in word_row (length ws - at) k (drop at ws))
+  -- what all of them tell
+  abbrev pub told_packets : List ℕ → Result Counts Told
+  told_packets ws = told_by word counts_of ws (packets_by fault packet ws)
 
--- what all of them tell
-abbrev pub told_packets : List ℕ → Result Counts Told
-told_packets ws = told_by word_at counts_of ws (packets_of_words ws)
+  pub at_first : (ws : List ℕ) → whole_from 0 0 0 ws ≡ told_packets ws
+  at_first ws = rw (sub-zero (length ws)) (add_nothing word ws (packets_by fault packet ws))
 
-pub at_first : (ws : List ℕ) → whole_from 0 0 0 ws ≡ told_packets ws
-unfolding packets_of_words
-at_first ws = rw (sub-zero (length ws)) (add_nothing word_at ws (packets_of_words ws))
+  pub no-packets : (ws : List ℕ) → length ws ≡ 0 → Ok (record { packets = 0; bytes = 0; packs = 0 }) ≡ told_packets ws
+  no-packets [] h = refl
+  no-packets (w ∷ ws) h = absurd (omega arith)
 
-pub no-packets : (ws : List ℕ) → length ws ≡ 0 → Ok (record { packets = 0; bytes = 0; packs = 0 }) ≡ told_packets ws
-unfolding packets_of_words word_row
-no-packets [] h = refl
-no-packets (w ∷ ws) h = absurd (omega arith)
+  -- no packet is left
+  pub at-end : (k at packs : ℕ) (ws : List ℕ) → length ws ≤ at → Ok (record { packets = k; bytes = at; packs = packs }) ≡ whole_from k at packs ws
+  at-end k at packs ws h = rw (row-end at ws k h) (simp add-zero)
 
--- no packet is left
-pub at-end : (k at packs : ℕ) (ws : List ℕ) → length ws ≤ at → Ok (record { packets = k; bytes = at; packs = packs }) ≡ whole_from k at packs ws
-unfolding word_row
-at-end k at packs ws h = rw (row-end words_fault packet_of_words at ws k h) (simp add-zero)
+  -- a place, and the words that are lent from there on
+  module _ (at : ℕ) (ws : List ℕ) where
+    -- "the first at fault is named", and its word
+    pub at-fault : (k packs : ℕ) → at < length ws → eqb (fault (lent at ws)) 0 ≡ false → from_packet k ws ≡ drop at ws
+        → Err (tell (fault (lent at ws)) k (word (fault (lent at ws)) (lent at ws))) ≡ whole_from k at packs ws
+    at-fault k packs h g e =
+        let f : ℕ = fault (lent at ws) in
+        rw (row-stop at ws f k h refl g)
+        (ap (λ (v : List ℕ). Err (tell f k (word f v))) (rest_part at ws ∙ sym e))
 
--- a place, and the words that are lent from there on
-module _ (at : ℕ) (ws : List ℕ) where
-  -- "the first at fault is named", and its word
-  pub at-fault : (k packs : ℕ) → at < length ws → eqb (words_fault (lent at ws)) 0 ≡ false → from_packet k ws ≡ drop at ws
-      → Err (tell (words_fault (lent at ws)) k (word_at (words_fault (lent at ws)) (lent at ws))) ≡ whole_from k at packs ws
-  unfolding word_row
-  at-fault k packs h g e =
-      let f : ℕ = words_fault (lent at ws) in
-      rw (row-stop words_fault packet_of_words at ws f k h refl g)
-      (ap (λ (v : List ℕ). Err (tell f k (word_at f v))) (rest_part at ws ∙ sym e))
+    module _ (w : WordLaws fault packet word) (z : eqb (fault (lent at ws)) 0 ≡ true) where
+      -- one packet more; the two packs of each that have no user bytes are counted apart
+      pub at_next : (dc : ℕ) → dc ≡ get_or ws (at + 5) 0 % 256 → (k packs : ℕ)
+          → whole_from (k + 1) (at + (dc + 7)) (packs + (dc + 3) / 4 + 2 * (k + 1)) ws ≡ whole_from k at (packs + 2 * k) ws
+      at_next dc e k packs =
+          let s : List ℕ = drop at ws in
+          let d : dc_in s ≡ dc = row-dc at ws w z ∙ sym e in
+          let long : dc_in s + 7 ≤ length s = w.long s (row_fine at ws w z) in
+          let m : length (take (dc_in s) (drop 6 s)) ≡ dc_in s = length-take-le (dc_in s) (drop 6 s) (let n = length-drop 6 s in omega arith) in
+          let u : length (packet s).user ≡ dc = ap length (w.user s) ∙ length-map (take (dc_in s) (drop 6 s)) low ∙ m ∙ d in
+          let a : at + bytes_of (packet s) ≡ at + (dc + 7) = ap (λ (n : ℕ). at + (n + 7)) u in
+          let b : packs + 2 * k + packs_of (packet s) ≡ packs + (dc + 3) / 4 + 2 * (k + 1) =
+          ap (λ (n : ℕ). packs + 2 * k + (1 + (1 + (n + 3) / 4))) u ∙ (omega arith) in
+          let later : Outcome = packets_in (row_of fault packet) (length ws - (at + (dc + 7))) (k + 1) (drop (at + (dc + 7)) ws) in
+          sym
+          (ap (told_by word (add_to k at (packs + 2 * k)) ws) (row_next at ws w z dc k e)
+          ∙ add-also word ws k at (packs + 2 * k) (packet s) later
+          ∙ (λ i. told_by word (add_to (k + 1) (a i) (b i)) ws later))
 
-  module _ (z : eqb (words_fault (lent at ws)) 0 ≡ true) where
-    -- all its words are there
-    pub all_there : at + (get_or ws (at + 5) 0 % 256 + 7) ≤ length ws
-    all_there = row-there words_fault packet_of_words at ws word-long z
-
-    -- one packet more; the two packs of each that have no user bytes are counted apart
-    pub at_next : (dc : ℕ) → dc ≡ get_or ws (at + 5) 0 % 256 → (k packs : ℕ)
-        → whole_from (k + 1) (at + (dc + 7)) (packs + (dc + 3) / 4 + 2 * (k + 1)) ws ≡ whole_from k at (packs + 2 * k) ws
-    unfolding word_row
-    at_next dc e k packs =
-        let s : List ℕ = drop at ws in
-        let d : dc_in s ≡ dc = row-dc words_fault packet_of_words at ws word-long z ∙ sym e in
-        let long : dc_in s + 7 ≤ length s = fault-long s (row_fine words_fault packet_of_words at ws word-long z) in
-        let m : length (take (dc_in s) (drop 6 s)) ≡ dc_in s = length-take-le (dc_in s) (drop 6 s) (let n = length-drop 6 s in omega arith) in
-        let u : length (packet_of_words s).user ≡ dc = length-map (take (dc_in s) (drop 6 s)) low ∙ m ∙ d in
-        let a : at + bytes_of (packet_of_words s) ≡ at + (dc + 7) = ap (λ (n : ℕ). at + (n + 7)) u in
-        let b : packs + 2 * k + packs_of (packet_of_words s) ≡ packs + (dc + 3) / 4 + 2 * (k + 1) =
-        ap (λ (n : ℕ). packs + 2 * k + (1 + (1 + (n + 3) / 4))) u ∙ (omega arith) in
-        let later : Outcome = packets_in word_row (length ws - (at + (dc + 7))) (k + 1) (drop (at + (dc + 7)) ws) in
-        sym
-        (ap (told_by word_at (add_to k at (packs + 2 * k)) ws) (row_next words_fault packet_of_words at ws word-long z dc k e)
-        ∙ add-also word_at ws k at (packs + 2 * k) (packet_of_words s) later
-        ∙ (λ i. told_by word_at (add_to (k + 1) (a i) (b i)) ws later))
-
-    -- and its place
-    pub place_next : (dc k : ℕ) → dc ≡ get_or ws (at + 5) 0 % 256 → from_packet k ws ≡ drop at ws
-        → from_packet (k + 1) ws ≡ drop (at + (dc + 7)) ws
-    place_next dc k e f =
-        let d : dc_in (drop at ws) ≡ dc = row-dc words_fault packet_of_words at ws word-long z ∙ sym e in
-        rw (add-one k, from-next k ws, f, d) (drop-drop (dc + 7) at ws)
+      -- and its place
+      pub place_next : (dc k : ℕ) → dc ≡ get_or ws (at + 5) 0 % 256 → from_packet k ws ≡ drop at ws
+          → from_packet (k + 1) ws ≡ drop (at + (dc + 7)) ws
+      place_next dc k e f =
+          let d : dc_in (drop at ws) ≡ dc = row-dc at ws w z ∙ sym e in
+          rw (add-one k, from-next k ws, f, d) (drop-drop (dc + 7) at ws)
 
 -- ---- a packet and what follows it
 
@@ -264,8 +244,7 @@ some-taken n (x ∷ s) h = rw (add_seven n) (omega arith)
 
 -- the words of a packet, as far as they are there, tested as packets back to back
 module _ (s part : List ℕ) (h : 0 < length s) (e : part ≡ take (dc_in s + 7) s) where
-  one_outcome : packets_of_words part ≡ cond (eqb (words_fault s) 0) (listed (packet_of_words part ∷ [])) (refused (words_fault s) 0)
-  unfolding packets_of_words word_row
+  one_outcome : packets_by words_fault packet_of_words part ≡ cond (eqb (words_fault s) 0) (listed (packet_of_words part ∷ [])) (refused (words_fault s) 0)
   one_outcome = go (eqb (words_fault part) 0) refl ∙ ap (λ (f : ℕ). cond (eqb f 0) (listed (packet_of_words part ∷ [])) (refused f 0)) same
     where
       same : words_fault part ≡ words_fault s
@@ -281,18 +260,18 @@ module _ (s part : List ℕ) (h : 0 < length s) (e : part ≡ take (dc_in s + 7)
       some = let l = some-taken (dc_in s) s h in let m : length part ≡ length (take (dc_in s + 7) s) = ap length e in omega arith
 
       go : (b : Bool) → eqb (words_fault part) 0 ≡ b
-          → packets_in word_row (length part) 0 part ≡ cond (eqb (words_fault part) 0) (listed (packet_of_words part ∷ [])) (refused (words_fault part) 0)
+          → packets_by words_fault packet_of_words part ≡ cond (eqb (words_fault part) 0) (listed (packet_of_words part ∷ [])) (refused (words_fault part) 0)
       go true z =
           rw (
             z,
-            front-fine words_fault packet_of_words word-long (length part) 0 part some (le_refl (length part)) (eqb-true (words_fault part) 0 z),
+            front-fine words_fault packet_of_words word_at sound_words (length part) 0 part some (le_refl (length part)) (eqb-true (words_fault part) 0 z),
             none,
-            front-none words_fault packet_of_words (length part - (dc_in part + 7)) (0 + 1),
+            front-none words_fault packet_of_words word_at (length part - (dc_in part + 7)) (0 + 1),
           )
-      go false z = rw (z, front-fault words_fault packet_of_words (length part) 0 part some some (eqb-false (words_fault part) 0 z))
+      go false z = rw (z, front-fault words_fault packet_of_words word_at (length part) 0 part some some (eqb-false (words_fault part) 0 z))
 
   -- which is refused where the packet is at fault
-  pub one_refused : {A : Type 0} (f : List Packet → A) (t : Told) → Err t ≡ told_by word_at f part (packets_of_words part)
+  pub one_refused : {A : Type 0} (f : List Packet → A) (t : Told) → Err t ≡ told_by word_at f part (packets_by words_fault packet_of_words part)
       → (eqb (words_fault s) 0 ≡ false) × (t ≡ tell (words_fault s) 0 (word_at (words_fault s) part))
   one_refused f t q = go (eqb (words_fault s) 0) refl (q ∙ ap (told_by word_at f part) one_outcome)
     where
@@ -302,7 +281,7 @@ module _ (s part : List ℕ) (h : 0 < length s) (e : part ≡ take (dc_in s + 7)
       go true z w = absurd (cc)
       go false z w = (z, cc)
 
-  pub one_listed : {A : Type 0} (f : List Packet → A) (a : A) → Ok a ≡ told_by word_at f part (packets_of_words part) → eqb (words_fault s) 0 ≡ true
+  pub one_listed : {A : Type 0} (f : List Packet → A) (a : A) → Ok a ≡ told_by word_at f part (packets_by words_fault packet_of_words part) → eqb (words_fault s) 0 ≡ true
   one_listed f a q = go (eqb (words_fault s) 0) refl (q ∙ ap (told_by word_at f part) one_outcome)
     where
       go : (b : Bool) → eqb (words_fault s) 0 ≡ b

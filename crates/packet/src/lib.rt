@@ -2,13 +2,15 @@
 // What each function gives is a definition of the crate rules.
 #![tactic(auto)]
 
-ghost use Rattle.std.specs.Prelude.{◌≡◌, ◌+◌, ◌-◌, ◌*◌, ◌/◌, ◌%◌, ◌≤◌, ◌<◌, false, not, ◌||◌, eqb, ltb, length, drop};
-ghost use Rattle.rules.specs.Packet.{word, check};
-ghost use Rattle.rules.specs.Laying.{is_word, flagged, words_fault, packets_of_words, dc_in, words_before, flag_word, word_at, type_of, judged};
+ghost use Rattle.std.specs.Prelude.{◌≡◌, ℕ, ◌+◌, ◌-◌, ◌*◌, ◌/◌, ◌%◌, ◌≤◌, ◌<◌, false, not, ◌||◌, List, eqb, ltb, length, drop};
+ghost use Rattle.rules.specs.Packet.{Packet, word, check};
+ghost use Rattle.rules.specs.Laying.{is_word, flagged, words_fault, packet_of_words, dc_in, words_before, flag_word, word_at, type_of, judged};
 ghost use Rattle.rules.specs.Refusals.{number, tell, told, told_of};
 ghost use Rattle.rules.specs.Demands.{Judges};
 ghost use Rattle.packet.specs.Run.{pass_of, run_of, check_sum, word_table, Passed, SizeOf};
-ghost use Rattle.packet.specs.Told.{counts_of, told_by, kind_number, judged_of};
+ghost use Rattle.packet.specs.Tests.{packets_by, counts_of, told_by, WordLaws};
+ghost use Rattle.packet.specs.Told.{kind_number, judged_of};
+ghost use Rattle.packet.specs.SoundWords.{sound_words};
 
 use rules::{Judged, Refusal, Refused};
 
@@ -330,11 +332,63 @@ fn refused(place: usize, ws: &[u16]) -> Refused
     }
 }
 
+// What is asked of the words of a packet, 7 to 10: of sound packets here, of packets as found in the crate found (document 02, A13).
+pub trait WordTests: Copy {
+    ghost fault: { List ℕ → ℕ };
+
+    ghost packet: { List ℕ → Packet };
+
+    ghost word: { ℕ → List ℕ → ℕ };
+
+    // What the tests need, which is made once for many packets.
+    fn new() -> Self;
+
+    // The whole test of the packet that the words begin with, without the number of its fault.
+    fn is_sound(&self, ws: &[u16]) -> bool
+        ensures { result ≡ eqb (fault ws.now) 0 };
+
+    // What is told of the packet that the words begin with, where it is at fault.
+    fn refused(&self, place: usize, ws: &[u16]) -> Refused
+        requires { eqb (fault ws.now) 0 ≡ false }
+        ensures { told result ≡ tell (fault ws.now) place (word (fault ws.now) ws.now) };
+
+    ghost laws: { WordLaws fault packet word };
+}
+
+// "Each word .. is .. its low byte with right bits above": the table is right.
+#[derive(Clone, Copy)]
+pub struct Sound {
+    table: [u16; 256],
+    ghost right: { table ≡ word_table },
+}
+
+impl WordTests for Sound {
+    ghost fault = { words_fault };
+
+    ghost packet = { packet_of_words };
+
+    ghost word = { word_at };
+
+    fn new() -> Sound {
+        Sound { table: words() }
+    }
+
+    fn is_sound(&self, ws: &[u16]) -> bool {
+        is_sound(&self.table, ws)
+    }
+
+    fn refused(&self, place: usize, ws: &[u16]) -> Refused {
+        refused(place, ws)
+    }
+
+    ghost laws = { sound_words };
+}
+
 // "Then packet by packet", "packets back to back": what all of them come to, or the first packet at fault.
 // "A DANC packet has as many bytes as its VANC packet has words, DC + 7." "A packet takes 2 + DC/4 packs, the quotient rounded up."
 // Many frames have no packets, and then no table is taken. The packet that ends the loop is behind the last word or at fault.
-pub fn packets(ws: &[u16]) -> Result<Counts, Refused>
-    ensures { told_of result ≡ told_by word_at counts_of ws.now (packets_of_words ws.now) }
+pub fn packets<T: WordTests>(ws: &[u16]) -> Result<Counts, Refused>
+    ensures { told_of result ≡ told_by T.word counts_of ws.now (packets_by T.fault T.packet ws.now) }
 {
     if ws.len() == 0 {
         return Ok(Counts {
@@ -343,11 +397,11 @@ pub fn packets(ws: &[u16]) -> Result<Counts, Refused>
             packs: 0,
         });
     }
-    let table = words();
+    let tests = T::new();
     let mut at = 0;
     let mut packets = 0;
     let mut packs = 0;
-    while is_sound(&table, &ws[at..]) {
+    while tests.is_sound(&ws[at..]) {
         let dc = low_byte(ws[at + 5]);
         packs += (dc + 3) / 4;
         at += dc + 7;
@@ -360,7 +414,7 @@ pub fn packets(ws: &[u16]) -> Result<Counts, Refused>
             packs: packs + 2 * packets,
         });
     }
-    Err(refused(packets, &ws[at..]))
+    Err(tests.refused(packets, &ws[at..]))
 }
 
 // "Type 1 (DID 80h or above) or Type 2" (document 02, A2).
@@ -399,7 +453,7 @@ fn judge(ws: &[u16]) -> Result<Kind, Refused>
         });
     }
     let n = size_of(ws);
-    packets(&ws[..n])?;
+    packets::<Sound>(&ws[..n])?;
     Ok(type_of(ws[3]))
 }
 

@@ -7,7 +7,7 @@ use mathlib.Core.Path.{◌≡◌, refl, sym, ap, ap₂, ◌∙◌}
 use mathlib.Core.Logic.{◌⊎◌, inl, inr}
 use mathlib.Core.Bool.{Bool, true, false, cond, not, ◌&&◌}
 use mathlib.Core.List.{List, [], ◌∷◌}
-use Rattle.std.proofs.Common.{Option, Some, None}
+use Rattle.std.proofs.Common.{Option, Some, None, Result, Ok, Err}
 use native.Mathlib.Nat.{zero-add}
 use native.Mathlib.Numerals.{add-one}
 use native.Mathlib.Omega.{arith}
@@ -21,18 +21,21 @@ use Rattle.rules.specs.Danc.{bytes_of}
 use Rattle.rules.specs.Packing1.{packs_of}
 use Rattle.rules.specs.Sheet.{limit, system_in, count_in, locations_in, word_count_in, words_in}
 use Rattle.rules.specs.Numbers.{Outcome, listed, refused, unless, and_then}
-use Rattle.rules.specs.Laying.{word_at, from_packet, packets_of_words, shaped, unless_at, location_stands, location_allowed, located}
-use Rattle.rules.specs.Laying.{list_tests_by, list_tests, sheet_tests}
-use Rattle.rules.specs.Lister.{tested_of, tested_with, tested_in, tested}
-use Rattle.rules.specs.declared.Tested.{Tested}
+use Rattle.rules.specs.Laying.{words_fault, packet_of_words, word_row, packets_of_words, word_at, from_packet}
+use Rattle.rules.specs.Laying.{shaped, unless_at, location_stands, location_allowed, located, list_tests_by, list_tests, sheet_tests}
+use Rattle.rules.specs.Lister.{tested_in, tested}
+use Rattle.rules.specs.Refusals.{number, Told, tell, told, told_of}
+use Rattle.rules.specs.declared.Refused.{Refused}
 use Rattle.rules.proofs.Basics.{both, second-false, rest_part}
 use Rattle.rules.proofs.Lines.{allowed-stands}
-use Rattle.rules.proofs.Words.{words-refused}
-use Rattle.packet.specs.Run.{counted}
+use Rattle.packet.specs.Tests.{packets_by, counts_of, told_by, WordLaws}
+use Rattle.packet.specs.declared.Counts.{Counts}
 use Rattle.frame.specs.Systems.{figures_of, figures_found}
 use Rattle.frame.specs.declared.Figures.{Figures}
 use Rattle.frame.proofs.Laws.{last-is, found_known, found_is, found_none}
 use Rattle.sheet.specs.Standing.{location_tests, in_front, in_place, AllInPlace}
+use Rattle.sheet.specs.Telling.{Misplaced, header_of, told_sheet, tested_from}
+use Rattle.sheet.specs.declared.Header.{Header}
 
 -- ---- the shape
 
@@ -127,17 +130,25 @@ module _ (y : System) (p : ℕ) (ls : List ℕ) (h : length ls ≡ 2 * p) (o : O
   range-past : (n : ℕ) → n ≡ in_front (location_stands y) ls → (n ≡ p → ⊥) → location_tests y ls o ≡ refused 6 n
   range-past n e d = rw (count_at 6 (location_stands y) 0 p ls _ h, zero-add (in_front (location_stands y) ls), ← e, ne_eqb n p d)
 
-  module _ (sys : ℕ) (ws : List ℕ) (n : ℕ) (e : n ≡ in_front (location_stands y) ls) where
+  module _ (e : Refused) (first : ℕ) (f : first ≡ in_front (location_stands y) ls) where
     -- "line or flags out of range"
-    pub out_of_range : (n ≡ p → ⊥) → tested_of 0 (refused 6 n) ≡ tested_in sys ws (location_tests y ls o)
-    unfolding word_at
-    out_of_range d = rw (range-past n e d)
+    pub out_of_range : told e ≡ tell 6 first 0 → (first ≡ p → ⊥) → Misplaced e (location_tests y ls o)
+    out_of_range q d =
+        let n : number e.refusal ≡ 6 = ap (λ (t : Told). t.number) q in
+        record {
+          outcome = range-past first f d ∙ ap (λ (t : Told). refused t.number t.place) (sym q);
+          word = λ fault packet word w s. w.early (number e.refusal) s (omega arith) ∙ ap (λ (t : Told). t.word) (sym q);
+        }
 
     -- all stand, and the k-th is the first on a line that is not allowed
-    pub not-allowed : n ≡ p → (k : ℕ) → k ≡ in_front (in_place y) ls → (k ≡ p → ⊥)
-        → tested_of 0 (refused 20 k) ≡ tested_in sys ws (location_tests y ls o)
-    unfolding word_at
-    not-allowed d k f g = rw (allowed-past (sym e ∙ d) k f g)
+    pub not-allowed : (k : ℕ) → told e ≡ tell 20 k 0 → first ≡ p → k ≡ in_front (in_place y) ls → (k ≡ p → ⊥)
+        → Misplaced e (location_tests y ls o)
+    not-allowed k q d g h =
+        let n : number e.refusal ≡ 20 = ap (λ (t : Told). t.number) q in
+        record {
+          outcome = allowed-past (sym f ∙ d) k g h ∙ ap (λ (t : Told). refused t.number t.place) (sym q);
+          word = λ fault packet word w s. w.late (number e.refusal) s (omega arith) ∙ ap (λ (t : Told). t.word) (sym q);
+        }
 
   -- all are in place
   pub all-in-place : (k : ℕ) → k ≡ in_front (in_place y) ls → k ≡ p → location_tests y ls o ≡ o
@@ -152,17 +163,6 @@ module _ (y : System) (p : ℕ) (ls : List ℕ) (h : length ls ≡ 2 * p) (o : O
     where
       standing : (l m : ℕ) → in_place y l m ≡ true → location_stands y l m ≡ true
       standing l m q = let w = both (ltb m 4) (allowed y l) q in rw (allowed-stands y l w.1, w.0)
-
--- of P locations of which the k-th is the first that is not in its place, one is refused with 6 or 20, whatever would follow
-pub misplaced : (y : System) (p : ℕ) (ls : List ℕ) → length ls ≡ 2 * p → (k : ℕ) → k ≡ in_front (in_place y) ls → (k ≡ p → ⊥)
-    → (n i : ℕ) × ((n ≡ 6) ⊎ (n ≡ 20)) × ((o : Outcome) → location_tests y ls o ≡ refused n i)
-misplaced y p ls h k e d = go (eqb (in_front (location_stands y) ls) p) refl
-  where
-    go : (t : Bool) → eqb (in_front (location_stands y) ls) p ≡ t
-        → (n i : ℕ) × ((n ≡ 6) ⊎ (n ≡ 20)) × ((o : Outcome) → location_tests y ls o ≡ refused n i)
-    go true q = (20, k, inr refl, λ o. allowed-past y p ls h o (eqb-true (in_front (location_stands y) ls) p q) k e d)
-    go false q =
-        (6, in_front (location_stands y) ls, inl refl, λ o. range-past y p ls h o _ refl (eqb-false (in_front (location_stands y) ls) p q))
 
 -- the pair at k
 drop-pair : (k : ℕ) (ls : List ℕ) → 2 * k + 1 < length ls
@@ -238,16 +238,15 @@ pass-more y ls k all t h f p e =
 -- ---- the list
 
 -- a packet's location is not in the figures
-abbrev plus : Packet → Tested → Tested
-plus p t = counted t.system (suc t.packets) (bytes_of p + t.bytes) (packs_of p + t.packs)
+abbrev plus : Packet → Counts → Counts
+plus p c = record { packets = suc c.packets; bytes = bytes_of p + c.bytes; packs = packs_of p + c.packs }
 
-located-figures : (sys : ℕ) (ls : List ℕ) (ps : List Packet) → length ls ≡ 2 * length ps
-    → tested_of sys (listed (located ls ps)) ≡ tested_of sys (listed ps)
-located-figures sys [] [] h = refl
-located-figures sys [] (p ∷ ps) h = absurd (omega arith)
-located-figures sys (l ∷ []) ps h = absurd (omega arith)
-located-figures sys (l ∷ f ∷ ls) [] h = absurd (omega arith)
-located-figures sys (l ∷ f ∷ ls) (p ∷ ps) h = ap (plus p) (located-figures sys ls ps (omega arith))
+located-counts : (ls : List ℕ) (ps : List Packet) → length ls ≡ 2 * length ps → counts_of (located ls ps) ≡ counts_of ps
+located-counts [] [] h = refl
+located-counts [] (p ∷ ps) h = absurd (omega arith)
+located-counts (l ∷ []) ps h = absurd (omega arith)
+located-counts (l ∷ f ∷ ls) [] h = absurd (omega arith)
+located-counts (l ∷ f ∷ ls) (p ∷ ps) h = ap (plus p) (located-counts ls ps (omega arith))
 
 -- "Packet k belongs to location k", where there are as many
 abbrev pub paired : List ℕ → List Packet → Outcome
@@ -285,103 +284,147 @@ module _ (packets : List ℕ → Outcome) (y : System) (s : List ℕ) (p : ℕ) 
       → list_tests_by packets y s ≡ and_then (packets (words_in s)) (paired s)
   from-words-by few sh k in_place all = from-six-by few ∙ all-in-place y p (lent_locations s p) (pairs s p is sh) _ k in_place all
 
--- the lister's
-module _ (sys : ℕ) (y : System) (s : List ℕ) (p : ℕ) (is : p ≡ count_in s) where
-  pub too_many : limit < p → tested_of 0 (refused 5 0) ≡ tested_in sys (words_in s) (list_tests y s)
-  unfolding list_tests word_at
-  too_many h = rw (many-outcome packets_of_words y s p is h)
+-- in either way of testing the packets
+module _ (fault : List ℕ → ℕ) (packet : List ℕ → Packet) (word : ℕ → List ℕ → ℕ) (w : WordLaws fault packet word) where
+  module _ (y : System) (s : List ℕ) (p : ℕ) (is : p ≡ count_in s) where
+    abbrev answer : Result Counts Told
+    answer = told_by word counts_of (words_in s) (list_tests_by (packets_by fault packet) y s)
 
-  abbrev ls : List ℕ
-  ls = lent_locations s p
+    pub too_many : limit < p → Err (tell 5 0 0) ≡ answer
+    too_many h =
+        rw (many-outcome (packets_by fault packet) y s p is h)
+        (ap (λ (v : ℕ). Err (tell 5 0 v)) (sym (w.early 5 (words_in s) (omega arith))))
 
-  module _ (sh : shaped s ≡ true) (few : p ≤ limit) where
-    -- a location at fault
-    pub location-refused : (t : Tested)
-        → ((sys : ℕ) (ws : List ℕ) (o : Outcome) → t ≡ tested_in sys ws (location_tests y ls o))
-        → t ≡ tested_in sys (words_in s) (list_tests y s)
-    unfolding list_tests
-    location-refused t h = h sys (words_in s) _ ∙ ap (tested_in sys (words_in s)) (sym (from-six-by packets_of_words y s p is few))
+    abbrev ls : List ℕ
+    ls = lent_locations s p
 
-    -- what the code found in the words that it lends
-    module _ (k : ℕ) (in_place : k ≡ in_front (in_place y) ls) (all : k ≡ p) (t : Tested)
-        (found : t ≡ tested_of sys (packets_of_words (take (length s - (3 + 2 * p + 1)) (drop (3 + 2 * p + 1) s)))) where
-      lent : take (length s - (3 + 2 * p + 1)) (drop (3 + 2 * p + 1) s) ≡ words_in s
-      lent = words_are s p is
+    module _ (sh : shaped s ≡ true) (few : p ≤ limit) where
+      -- a location at fault
+      pub location-refused : (e : Refused) → ((o : Outcome) → Misplaced e (location_tests y ls o)) → Err (told e) ≡ answer
+      location-refused e h =
+          let m = h (and_then (packets_by fault packet (words_in s)) (paired s)) in
+          rw (from-six-by (packets_by fault packet) y s p is few, m.outcome)
+          (ap (λ (v : ℕ). Err (tell (number e.refusal) e.place v)) (sym (m.word fault packet word w (from_packet e.place (words_in s)))))
 
-      found-is : t ≡ tested_of sys (packets_of_words (words_in s))
-      found-is = found ∙ ap (λ (ws : List ℕ). tested_of sys (packets_of_words ws)) lent
+      -- what the code found in the words that it lends
+      module _ (k : ℕ) (in_place : k ≡ in_front (in_place y) ls) (all : k ≡ p) where
+        abbrev pub lent_words : List ℕ
+        lent_words = take (length s - (3 + 2 * p + 1)) (drop (3 + 2 * p + 1) s)
 
-      from-words : list_tests y s ≡ and_then (packets_of_words (words_in s)) (paired s)
-      unfolding list_tests
-      from-words = from-words-by packets_of_words y s p is few sh k in_place all
+        of-words : {A : Type 0} (f : List Packet → A)
+            → told_by word f lent_words (packets_by fault packet lent_words) ≡ told_by word f (words_in s) (packets_by fault packet (words_in s))
+        of-words f = ap (λ (ws : List ℕ). told_by word f ws (packets_by fault packet ws)) (words_are s p is)
 
-      -- a packet at fault, and its word
-      pub packet-refused : (t.number ≡ 0 → ⊥) → (w : ℕ)
-          → w ≡ word_at t.number (from_packet t.place (take (length s - (3 + 2 * p + 1)) (drop (3 + 2 * p + 1) s)))
-          → tested_with w (tested_of 0 (refused t.number t.place)) ≡ tested_in sys (words_in s) (list_tests y s)
-      packet-refused h w f =
-          go (packets_of_words (words_in s)) found-is (f ∙ ap (λ (ws : List ℕ). word_at t.number (from_packet t.place ws)) lent)
-          ∙ ap (tested_in sys (words_in s)) (sym from-words)
-        where
-          go : (o : Outcome) → t ≡ tested_of sys o → w ≡ word_at t.number (from_packet t.place (words_in s))
-              → tested_with w (tested_of 0 (refused t.number t.place)) ≡ tested_in sys (words_in s) (and_then o (paired s))
-          go (refused n i) e f =
-              let number : t.number ≡ n = ap (λ (x : Tested). x.number) e in
-              let place : t.place ≡ i = ap (λ (x : Tested). x.place) e in
-              ap (λ (v : ℕ). tested_with v (tested_of 0 (refused t.number t.place))) f
-              ∙ ap₂ (λ (m j : ℕ). tested_with (word_at m (from_packet j (words_in s))) (tested_of 0 (refused m j))) number place
-          go (listed ps) e f = absurd (h (ap (λ (x : Tested). x.number) e))
+        from-words : answer ≡ told_by word counts_of (words_in s) (and_then (packets_by fault packet (words_in s)) (paired s))
+        from-words =
+            ap (told_by word counts_of (words_in s)) (from-words-by (packets_by fault packet) y s p is few sh k in_place all)
 
-      -- no packet at fault: there is a list
-      list_of : t.number ≡ 0 → (ps : List Packet) × (packets_of_words (words_in s) ≡ listed ps) × (t ≡ tested_of sys (listed ps))
-      list_of z = go (packets_of_words (words_in s)) refl found-is
-        where
-          go : (o : Outcome) → packets_of_words (words_in s) ≡ o → t ≡ tested_of sys o
-              → (ps : List Packet) × (packets_of_words (words_in s) ≡ listed ps) × (t ≡ tested_of sys (listed ps))
-          go (listed ps) q e = (ps, q, e)
-          go (refused n i) q e =
-              let w = words-refused (words_in s) n i q in
-              let m : t.number ≡ n = ap (λ (x : Tested). x.number) e in
-              absurd (omega arith)
+        -- a packet at fault
+        pub packet-refused : (t : Told) → Err t ≡ told_by word counts_of lent_words (packets_by fault packet lent_words) → Err t ≡ answer
+        packet-refused t e = go (packets_by fault packet (words_in s)) (e ∙ of-words counts_of) ∙ sym from-words
+          where
+            go : (o : Outcome) → Err t ≡ told_by word counts_of (words_in s) o → Err t ≡ told_by word counts_of (words_in s) (and_then o (paired s))
+            go (refused n i) q = q
+            go (listed ps) q = absurd (cc)
 
-      -- "packets and locations differ in number"
-      pub differ : t.number ≡ 0 → (t.packets ≡ p → ⊥) → tested_of 0 (refused 11 0) ≡ tested_in sys (words_in s) (list_tests y s)
-      unfolding word_at
-      differ z h =
-          let l = list_of z in
-          let n : t.packets ≡ length l.0 = ap (λ (x : Tested). x.packets) l.2 in
-          rw (from-words, l.1, ne_eqb (length l.0) (count_in s) (λ e. h (n ∙ e ∙ sym is)))
+        module _ (c : Counts) (e : Ok c ≡ told_by word counts_of lent_words (packets_by fault packet lent_words)) where
+          -- there is a list
+          list_of : (ps : List Packet) × (packets_by fault packet (words_in s) ≡ listed ps) × (c ≡ counts_of ps)
+          list_of = go (packets_by fault packet (words_in s)) refl (e ∙ of-words counts_of)
+            where
+              go : (o : Outcome) → packets_by fault packet (words_in s) ≡ o → Ok c ≡ told_by word counts_of (words_in s) o
+                  → (ps : List Packet) × (packets_by fault packet (words_in s) ≡ listed ps) × (c ≡ counts_of ps)
+              go (listed ps) q f = (ps, q, cc)
+              go (refused n i) q f = absurd (cc)
 
-      -- and the list stands
-      pub whole : t.number ≡ 0 → t.packets ≡ p → t ≡ tested_in sys (words_in s) (list_tests y s)
-      whole z h =
-          let l = list_of z in
-          let n : length l.0 ≡ p = ap (λ (x : Tested). x.packets) (sym l.2) ∙ h in
-          let two : length (locations_in s) ≡ 2 * length l.0 =
-          ap length (sym (locations-are s p is)) ∙ pairs s p is sh ∙ ap (λ (m : ℕ). 2 * m) (sym n) in
-          rw (from-words, l.1, eq-eqb (length l.0) (count_in s) (n ∙ is))
-          (l.2 ∙ sym (located-figures sys (locations_in s) l.0 two))
+          -- "packets and locations differ in number"
+          pub differ : (c.packets ≡ p → ⊥) → Err (tell 11 0 0) ≡ answer
+          differ h =
+              let l = list_of in
+              let n : c.packets ≡ length l.0 = ap (λ (x : Counts). x.packets) l.2 in
+              rw (from-words, l.1, ne_eqb (length l.0) (count_in s) (λ e. h (n ∙ e ∙ sym is)))
+              (ap (λ (v : ℕ). Err (tell 11 0 v)) (sym (w.late 11 (words_in s) (omega arith))))
 
--- ---- the sheet
+          -- and the list stands
+          pub whole : c.packets ≡ p → Ok c ≡ answer
+          whole h =
+              let l = list_of in
+              let n : length l.0 ≡ p = ap (λ (x : Counts). x.packets) (sym l.2) ∙ h in
+              let two : length (locations_in s) ≡ 2 * length l.0 =
+              ap length (sym (locations-are s p is)) ∙ pairs s p is sh ∙ ap (λ (m : ℕ). 2 * m) (sym n) in
+              rw (from-words, l.1, eq-eqb (length l.0) (count_in s) (n ∙ is))
+              (ap Ok (l.2 ∙ sym (located-counts (locations_in s) l.0 two)))
 
-module _ (s : List ℕ) where
-  pub misshapen : shaped s ≡ false → tested_of 0 (refused 2 0) ≡ tested s
-  unfolding tested sheet_tests word_at
-  misshapen e = rw e
+  -- ---- the sheet
 
-  -- a sheet of the right shape, and the figures of the system that it names
-  module _ (sh : shaped s ≡ true) (sys : ℕ) (is : sys ≡ system_in s) where
-    -- "system not 1 to 3"
-    pub unknown : None ≡ figures_found sys → tested_of 0 (refused 3 0) ≡ tested s
-    unfolding tested sheet_tests word_at
-    unknown e = rw (sh, found_none (system_in s) (e ∙ ap figures_found is))
+  module _ (s : List ℕ) where
+    pub misshapen : shaped s ≡ false → Err (tell 2 0 0) ≡ told_sheet fault packet word s
+    misshapen e = rw e (ap (λ (v : ℕ). Err (tell 2 0 v)) (sym (w.early 2 (words_in s) (omega arith))))
 
-    -- and the list's own tests
-    pub the-list : (x : Figures) → Some x ≡ figures_found sys → (r : Tested)
-        → ((y : System) → y.last ≡ x.last_line.0 → r ≡ tested_in sys (words_in s) (list_tests y s)) → r ≡ tested s
-    unfolding tested sheet_tests
-    the-list x e r h =
-        let f : Some x ≡ figures_found (system_in s) = e ∙ ap figures_found is in
-        rw (sh, found_known (system_in s) x f)
-        (h (system (system_in s)) (sym (last-is (system_in s) x (found_is (system_in s) x f)))
-        ∙ ap (λ (n : ℕ). tested_in n (words_in s) (list_tests (system (system_in s)) s)) is)
+    -- a sheet of the right shape, and the figures of the system that it names
+    module _ (sh : shaped s ≡ true) (sys : ℕ) (is : sys ≡ system_in s) where
+      -- "system not 1 to 3"
+      pub unknown : None ≡ figures_found sys → Err (tell 3 0 0) ≡ told_sheet fault packet word s
+      unknown e =
+          rw (sh, found_none (system_in s) (e ∙ ap figures_found is))
+          (ap (λ (v : ℕ). Err (tell 3 0 v)) (sym (w.early 3 (words_in s) (omega arith))))
+
+      -- and the list's own tests
+      module _ (x : Figures) (found : Some x ≡ figures_found sys) where
+        abbrev own : System
+        own = system (system_in s)
+
+        named : Some x ≡ figures_found (system_in s)
+        named = found ∙ ap figures_found is
+
+        tests-are : told_sheet fault packet word s
+            ≡ told_by word (header_of (system_in s)) (words_in s) (list_tests_by (packets_by fault packet) own s)
+        tests-are = rw (sh, found_known (system_in s) x named)
+
+        its-last : own.last ≡ x.last_line.0
+        its-last = sym (last-is (system_in s) x (found_is (system_in s) x named))
+
+        pub list-refused : (t : Told)
+            → ((y : System) → y.last ≡ x.last_line.0
+                → Err t ≡ told_by word counts_of (words_in s) (list_tests_by (packets_by fault packet) y s))
+            → Err t ≡ told_sheet fault packet word s
+        list-refused t h = go (list_tests_by (packets_by fault packet) own s) (h own its-last) ∙ sym tests-are
+          where
+            go : (o : Outcome) → Err t ≡ told_by word counts_of (words_in s) o → Err t ≡ told_by word (header_of (system_in s)) (words_in s) o
+            go (refused n i) q = cc
+            go (listed ps) q = absurd (cc)
+
+        pub list-stands : (c : Counts)
+            → ((y : System) → y.last ≡ x.last_line.0
+                → Ok c ≡ told_by word counts_of (words_in s) (list_tests_by (packets_by fault packet) y s))
+            → Ok (record { system = sys; counts = c }) ≡ told_sheet fault packet word s
+        list-stands c h = go (list_tests_by (packets_by fault packet) own s) (h own its-last) ∙ sym tests-are
+          where
+            go : (o : Outcome) → Ok c ≡ told_by word counts_of (words_in s) o
+                → Ok (record { system = sys; counts = c }) ≡ told_by word (header_of (system_in s)) (words_in s) o
+            go (refused n i) q = absurd (cc)
+            go (listed ps) q = cc
+
+-- ---- the lister's tests
+
+pub told-tests : (s : List ℕ)
+    → told_sheet words_fault packet_of_words word_at s ≡ told_by word_at (header_of (system_in s)) (words_in s) (sheet_tests s)
+unfolding sheet_tests list_tests packets_of_words word_row
+told-tests s = refl
+
+-- as they are given back
+pub tested-is : (s : List ℕ) (r : Result Header Refused)
+    → told_of r ≡ told_by word_at (header_of (system_in s)) (words_in s) (sheet_tests s) → tested_from r ≡ tested s
+unfolding tested
+tested-is s r e = go r (sheet_tests s) e
+  where
+    go : (r : Result Header Refused) (o : Outcome) → told_of r ≡ told_by word_at (header_of (system_in s)) (words_in s) o
+        → tested_from r ≡ tested_in (system_in s) (words_in s) o
+    go (Ok h) (listed ps) q = let d : h ≡ header_of (system_in s) ps = cc in ap (λ (x : Header). tested_from (Ok x)) d
+    go (Ok h) (refused n i) q = absurd (cc)
+    go (Err x) (listed ps) q = absurd (cc)
+    go (Err x) (refused n i) q =
+        let d : told x ≡ tell n i (word_at n (from_packet i (words_in s))) = cc in
+        ap
+        (λ (t : Told). record { number = t.number; place = t.place; word = t.word; system = 0; packets = 0; bytes = 0; packs = 0 })
+        d

@@ -5,17 +5,20 @@
 
 ghost use Rattle.std.specs.Prelude.{◌≡◌, true, ℕ, ◌*◌, ◌<◌, List, length};
 ghost use Rattle.rules.specs.Systems.{System};
-ghost use Rattle.rules.specs.Sheet.{words_in};
-ghost use Rattle.rules.specs.Numbers.{Outcome, refused};
-ghost use Rattle.rules.specs.Laying.{shaped, location_stands, list_tests};
-ghost use Rattle.rules.specs.Lister.{tested_of, tested_with, tested_in};
+ghost use Rattle.rules.specs.Sheet.{system_in, words_in};
+ghost use Rattle.rules.specs.Numbers.{Outcome};
+ghost use Rattle.rules.specs.Laying.{shaped, word_at, location_stands, list_tests_by, sheet_tests};
+ghost use Rattle.rules.specs.Refusals.{number, tell, told, told_of};
 ghost use Rattle.rules.specs.Demands.{Tests};
+ghost use Rattle.packet.specs.Tests.{packets_by, counts_of, told_by};
 ghost use Rattle.sheet.specs.Standing.{in_front, in_place, location_tests, AllInPlace};
+ghost use Rattle.sheet.specs.Telling.{Misplaced, header_of, told_sheet, tested_from};
 
 mod write;
 
 use frame::Line;
-use rules::Tested;
+use packet::{Counts, Sound, WordTests};
+use rules::{Refusal, Refused, Tested};
 pub use write::{write_sheet, write_words};
 
 // A number of the sheet as a place, so that no caller has to show that the cast keeps it.
@@ -25,18 +28,21 @@ pub fn wide(x: u16) -> usize
     x as usize
 }
 
-// "On refusal the later figures are 0". 7 to 10 name a word of the packet; for every other number the word is 0 (document 02, A2).
-fn refusal(number: u64, place: u64, word: u64) -> Tested
-    ensures { result ≡ tested_with word (tested_of 0 (refused number place)) }
+// "Header: system, packets, string bytes, packs in packing 1": what a sheet that passes comes to.
+#[derive(Clone, Copy, PartialEq, Eq)]
+pub struct Header {
+    pub system: u64,
+    pub counts: Counts,
+}
+
+// For every number but 7 to 10 the word is 0 (document 02, A2).
+fn refused(refusal: Refusal, place: usize) -> Refused
+    ensures { told result ≡ tell (number refusal) place 0 }
 {
-    Tested {
-        number,
+    Refused {
+        refusal,
         place,
-        word,
-        system: 0,
-        packets: 0,
-        bytes: 0,
-        packs: 0,
+        word: 0,
     }
 }
 
@@ -137,59 +143,87 @@ fn placed(last: Line, p: usize, ls: &[u16]) -> usize
 }
 
 // "after 6 on all locations" 20 (document 02, A3), of P locations of which the k-th is the first that is not in its place.
-pub fn location_fault(last: Line, p: usize, k: usize, ls: &[u16]) -> Tested
+fn location_fault(last: Line, p: usize, k: usize, ls: &[u16]) -> Refused
     requires { length ls.now ≡ 2 * p }
     ensures { (y : System) → y.last ≡ last.0 → k ≡ in_front (in_place y) ls.now → (k ≡ p → ⊥)
-        → (sys : ℕ) (ws : List ℕ) (o : Outcome) → result ≡ tested_in sys ws (location_tests y ls.now o) }
+        → (o : Outcome) → Misplaced result (location_tests y ls.now o) }
 {
     let first = standing(last, ls);
     if first != p {
-        return refusal(6, first as u64, 0);
+        return refused(Refusal::Location, first);
     }
-    refusal(20, k as u64, 0)
+    refused(Refusal::PictureLine, k)
 }
 
 // The tests of the list: "5 | laying: P over [1,275]", 6, 20, 7 to 10 packet by packet, "11 | packets and locations differ in number".
-fn list_tests(system: u64, last: Line, s: &[u16]) -> Tested
+fn list_tests<T: WordTests>(last: Line, s: &[u16]) -> Result<Counts, Refused>
     requires { shaped s.now ≡ true }
-    ensures { (y : System) → y.last ≡ last.0 → result ≡ tested_in system (words_in s.now) (list_tests y s.now) }
+    ensures { (y : System) → y.last ≡ last.0
+        → told_of result ≡ told_by T.word counts_of (words_in s.now) (list_tests_by (packets_by T.fault T.packet) y s.now) }
 {
     let p = wide(s[2]);
     if p > frame::LIMIT {
-        return refusal(5, 0, 0);
+        return Err(refused(Refusal::PacketLimit, 0));
     }
     let end = 3 + 2 * p;
     let ls = &s[3..end];
     let k = placed(last, p, ls);
     if k != p {
-        return location_fault(last, p, k, ls);
+        return Err(location_fault(last, p, k, ls));
     }
     let first = end + 1;
-    let words = &s[first..];
-    let t = packet::packets(system, words);
-    if t.number != 0 {
-        return refusal(
-            t.number,
-            t.place,
-            packet::word_named(t.number, t.place, words),
-        );
+    let counts = packet::packets::<T>(&s[first..])?;
+    if counts.packets != p {
+        return Err(refused(Refusal::PacketCount, 0));
     }
-    if t.packets != p as u64 {
-        return refusal(11, 0, 0);
-    }
-    t
+    Ok(counts)
 }
 
-// "the tests 2, 3, 5 to 11", and 20, of any numbers whatever: "3 | system not 1 to 3" stands before the list's own.
-pub fn test(s: &[u16]) -> Tested
-    ensures { Tests s.now result }
+// "the tests 2, 3, 5 to 11", and 20, of any numbers whatever: "3 | system not 1 to 3" stands before the list's own. The packets of its words are
+// tested as sound ones or as they are found (document 02, A13).
+pub fn tests_by<T: WordTests>(s: &[u16]) -> Result<Header, Refused>
+    ensures { told_of result ≡ told_sheet T.fault T.packet T.word s.now }
 {
     if !is_shaped(s) {
-        return refusal(2, 0, 0);
+        return Err(refused(Refusal::Shape, 0));
     }
     let system = wide(s[1]) as u64;
     let Some(figures) = frame::figures_of(system) else {
-        return refusal(3, 0, 0);
+        return Err(refused(Refusal::System, 0));
     };
-    list_tests(system, figures.last_line, s)
+    let counts = list_tests::<T>(figures.last_line, s)?;
+    Ok(Header { system, counts })
+}
+
+// The lister's tests of a sheet.
+pub fn tests(s: &[u16]) -> Result<Header, Refused>
+    ensures { told_of result ≡ told_by word_at (header_of (system_in s.now)) (words_in s.now) (sheet_tests s.now) }
+{
+    tests_by::<Sound>(s)
+}
+
+// The same as the C interface's calls give it back: "On refusal the later figures are 0".
+pub fn test(s: &[u16]) -> Tested
+    ensures { Tests s.now result }
+{
+    match tests(s) {
+        Ok(header) => Tested {
+            number: 0,
+            place: 0,
+            word: 0,
+            system: header.system,
+            packets: header.counts.packets as u64,
+            bytes: header.counts.bytes as u64,
+            packs: header.counts.packs as u64,
+        },
+        Err(e) => Tested {
+            number: e.refusal.number(),
+            place: e.place as u64,
+            word: e.word as u64,
+            system: 0,
+            packets: 0,
+            bytes: 0,
+            packs: 0,
+        },
+    }
 }

@@ -8,7 +8,7 @@ use lib.ListN.{length, take}
 use Rattle.std.proofs.lemmas.Result.{err_from_is_err_and}
 use Rattle.rules.specs.Laying.{words_fault, word_at}
 use Rattle.rules.specs.Refusals.{Told}
-use Rattle.packet.specs.Told.{counts_of}
+use Rattle.packet.specs.Tests.{counts_of}
 use Rattle.packet.proofs.Laws.{one_none, one-refused, one-sound, one-long}
 use Rattle.packet.proofs.Row.{one_refused, one_listed, cut-word}
 use Rattle.packet.proofs.judge.Goals as goal

@@ -4,18 +4,19 @@ use Prim.Native.Nat.{◌+◌, ◌-◌, ◌*◌, ◌≤◌}
 use mathlib.Core.Path.{◌≡◌}
 use lib.ListN.{length, drop}
 use Rattle.rules.specs.Laying.{from_packet}
-use Rattle.packet.specs.Run.{word_table}
 use Rattle.packet.proofs.Row.{whole_from, told_packets}
 use Rattle.packet.proofs.packets.Given as goal
 
-abbrev pub invariant-loop-table : goal.invariant-loop-table
-invariant-loop-table l =
+abbrev pub invariant-loop-dc : goal.invariant-loop-dc
+invariant-loop-dc g l =
     record {
       within : l.at ≤ length l.ws;
       few : l.packs + 2 * l.packets ≤ l.at;
       place : from_packet l.packets l.ws ≡ drop l.at l.ws;
-      whole : whole_from l.packets l.at (l.packs + 2 * l.packets) l.ws ≡ told_packets l.ws;
+      whole :
+          whole_from g.T.WordTests.fault g.T.WordTests.packet g.T.WordTests.word l.packets l.at (l.packs + 2 * l.packets) l.ws
+          ≡ told_packets g.T.WordTests.fault g.T.WordTests.packet g.T.WordTests.word l.ws;
     }
 
-abbrev pub decreases-loop-table : goal.decreases-loop-table
-decreases-loop-table l = length l.ws - l.at
+abbrev pub decreases-loop-dc : goal.decreases-loop-dc
+decreases-loop-dc g l = length l.ws - l.at

@@ -1,0 +1,62 @@
+-- 8 names the first word over 3FFh, and every other number what it names anywhere.
+use mathlib.Core.Path.{◌≡◌, refl}
+use mathlib.Core.Bool.{false}
+use lib.Dec.{eqb}
+use Rattle.rules.specs.Found.{found_word_at}
+use Rattle.rules.specs.Refusals.{number}
+use Rattle.rules.specs.declared.Refusal.{Refusal}
+use Rattle.rules.specs.declared.Refusal.TheVariants.{
+  Packing,
+  Shape,
+  System,
+  AreaLength,
+  PacketLimit,
+  Location,
+  Flag,
+  Word,
+  CutOff,
+  Checksum,
+  PacketCount,
+  Room,
+  Packs,
+  Length,
+  StoredChecksum,
+  Line,
+  Buffer,
+  NoLine,
+  Element,
+  PictureLine,
+  EightBits,
+}
+use Rattle.found.proofs.word_at.Goals as goal
+
+not-eight : (r : Refusal) → (r ≡ Word → ⊥) → eqb (number r) 8 ≡ false
+not-eight Packing h = refl
+not-eight Shape h = refl
+not-eight System h = refl
+not-eight AreaLength h = refl
+not-eight PacketLimit h = refl
+not-eight Location h = refl
+not-eight Flag h = refl
+not-eight Word h = absurd (h refl)
+not-eight CutOff h = refl
+not-eight Checksum h = refl
+not-eight PacketCount h = refl
+not-eight Room h = refl
+not-eight Packs h = refl
+not-eight Length h = refl
+not-eight StoredChecksum h = refl
+not-eight Line h = refl
+not-eight Buffer h = refl
+not-eight NoLine h = refl
+not-eight Element h = refl
+not-eight PictureLine h = refl
+not-eight EightBits h = refl
+
+pub returns-in-Word : goal.returns-in-Word
+unfolding found_word_at
+returns-in-Word c = rw c.in-Word.is c.over_word.ensures
+
+pub returns-in_default : goal.returns-in_default
+unfolding found_word_at
+returns-in_default c = rw (not-eight c.args.refusal c.in_default.not-Word) c.word_at.ensures
