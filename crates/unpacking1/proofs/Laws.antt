@@ -13,9 +13,9 @@ use native.Mathlib.Numerals.{add-one, add_six, add_seven}
 use lib.Dec.{eqb, ltb, leb}
 use lib.ListN.{length, get_or, take, drop, length-append, length-drop, length-map}
 use lib.Seq.{length-take-le, take-length, take_at, take-take, get_or-take}
-use borrow.Author.Tests.{ltb-true, eqb-true, eqb-false, ne_eqb, lt-ltb, leb-true}
+use borrow.Author.Tests.{ltb-true, ltb-false, eqb-true, eqb-false, ne_eqb, lt-ltb, leb-true}
 use Rattle.rules.specs.Base.{all_is, All, none, one, Bytes}
-use Rattle.std.specs.Prelude.{Option, None, Some, Result, Ok, Err}
+use Rattle.std.specs.Prelude.{Result, Ok, Err}
 use Rattle.rules.specs.declared.Refusal.{Refusal}
 use Rattle.rules.specs.declared.Refused.{Refused}
 use Rattle.rules.specs.Refusals.{Told, tell, told, told_of}
@@ -33,12 +33,12 @@ use Rattle.rules.proofs.Packs.{lead-within}
 use Rattle.danc.specs.declared.Validated.{Validated}
 use Rattle.danc.specs.Answer.{counted, answer_of}
 use Rattle.danc.specs.Validated.{judged_as}
-use Rattle.unpacking1.specs.Open.{packs_at, Within, used, order_from, order_first, fits, NotMoved, MovedTo, Opens}
-use Rattle.unpacking1.specs.Open.{packets_from, packets_of_packs, wrong_length, placed, order_before, end_answer, packets_of_fives}
+use Rattle.unpacking1.specs.Open.{packs_at, Within, order_first, fits, NotMoved, MovedTo, Opens}
+use Rattle.unpacking1.specs.Open.{packets_from, packets_of_packs, wrong_order, wrong_length, placed, order_before, end_answer, packets_of_fives}
 use Rattle.unpacking1.proofs.Packs.{kept-later, kept_at, kept-packs, window-front, window-at, window-part}
-use Rattle.unpacking1.proofs.Packs.{pack_at, packs-drop, packs-length, first-pack}
-use Rattle.unpacking1.proofs.Order.{used-within, used-goes, order-ends, order-none, order-some}
-use Rattle.unpacking1.proofs.Packet.{carried-length}
+use Rattle.unpacking1.proofs.Packs.{pack_at, packs-none, packs-drop, packs-length, first-pack}
+use Rattle.unpacking1.proofs.Order.{goes-on, order-ends}
+use Rattle.unpacking1.proofs.Packet.{lead-none, lead-some, carried-length}
 
 -- ---- packets in front of an outcome
 
@@ -175,7 +175,7 @@ pub record Opening (last : ℕ) (before us : List ℕ) (total r w k : ℕ) : Typ
   pub packs : Within before r total
   pub low : w ≤ r
   pub few : 10 * k ≤ r
-  pub order : order_from false r (packs_at before r total) ≡ order_from false 0 (packs_at before 0 total)
+  pub order : in_order false (packs_at before r total) ≡ in_order false (packs_at before 0 total)
   pub size : length before ≡ 9360
   pub long : length us ≡ length before
   pub kept : drop r us ≡ drop r before
@@ -215,22 +215,18 @@ module _ {last : ℕ} {before us : List ℕ} {total r w k : ℕ} (v : Opening la
   left-us : packs_at us r total ≡ left
   left-us = kept-packs us before r v.kept r total (omega arith)
 
-  -- the answer of the two readers from here on is that from the first pack on
-  order-us : order_from false r (packs_at us r total) ≡ order_from false 0 packs
-  order-us = ap (order_from false r) left-us ∙ v.order
+  -- their order is that of all packs
+  order-us : in_order false (packs_at us r total) ≡ in_order false packs
+  order-us = ap (in_order false) left-us ∙ v.order
 
   -- 13
-  pub refused-order : order_from false 0 packs ≡ None → (y : System) → packets_of_packs y packs ≡ refused 13 0
-  refused-order e y = ap (λ (b : Bool). unless 13 b (packets_from y packs)) (order-none 0 packs e)
+  pub refused-order : in_order false packs ≡ false → (y : System) → packets_of_packs y packs ≡ refused 13 0
+  refused-order e y = ap (λ (b : Bool). unless 13 b (packets_from y packs)) e
 
   -- packs in order: what their packets give is the outcome
-  module _ {fill : ℕ} (o : order_from false 0 packs ≡ Some fill) where
+  module _ (o : in_order false packs ≡ true) where
     in_order_lem : (y : System) {p : Outcome} → packets_from y packs ≡ p → packets_of_packs y packs ≡ p
-    in_order_lem y q = ap (λ (b : Bool). unless 13 b (packets_from y packs)) (order-some 0 packs o).0 ∙ q
-
-    -- those left are so too
-    left-place : (in_order false left ≡ true) × (fill ≡ r + 5 * used left)
-    left-place = order-some r left (v.order ∙ o)
+    in_order_lem y q = ap (λ (b : Bool). unless 13 b (packets_from y packs)) o ∙ q
 
   -- no more packets than there are packs for
   pub below-limit : r < total → k < limit
@@ -265,7 +261,7 @@ module _ {last : ℕ} {before us : List ℕ} {total r w k : ℕ} (v : Opening la
   refused-is y e n q = whole_is y e (refused n k) q ∙ also-refused (packets_of (v.done y e).items) n k
 
   -- the end
-  module _ {fill : ℕ} (o : order_from false 0 packs ≡ Some fill) (ends : packs_end left ≡ true) where
+  module _ (o : in_order false packs ≡ true) (ends : packs_end left ≡ true) where
     -- how many packets there are and where their string ends, which stands in front
     opening-done : (y : System) → y.last ≡ last → Opens y (packets_of_packs y packs) (Ok (counted k w)) us
     opening-done y e =
@@ -305,47 +301,65 @@ module _ {last : ℕ} {before us : List ℕ} {total r w k : ℕ} (v : Opening la
         refused-is y e n (ap (λ (m : ℕ). packets_in (pack_row y) m k left) more ∙ packs-fault y left k (limit - (k + 1)) n goes f z)
 
     -- 14, of packs in order
-    fourteen : {fill : ℕ} → order_from false 0 packs ≡ Some fill → fits left ≡ false → (y : System) → y.last ≡ last
+    fourteen : in_order false packs ≡ true → fits left ≡ false → (y : System) → y.last ≡ last
         → packets_of_packs y packs ≡ refused 14 k
     fourteen o f y e =
         in_order_lem o y
         (refused-fault 14 (λ z. omega arith) y e (fault-is y left ∙ ap (λ (b : Bool). cond b (bytes_fault y (front_bytes left)) 14) f))
 
+  -- carriers are in front
+  module _ (z : lead left ≡ 0 → ⊥) where
+    -- so a pack is left
+    pack-left : r < total
+    pack-left = go (ltb r total) refl
+      where
+        go : (t : Bool) → ltb r total ≡ t → r < total
+        go true e = ltb-true r total e
+        go false e = absurd (z (ap lead (packs-none before r total (ltb-false r total e))))
+
+    -- which is one
+    carrier-left : get_or before r 0 ≡ 0xE2
+    carrier-left = go (eqb (get_or before r 0) 0xE2) refl
+      where
+        go : (t : Bool) → eqb (get_or before r 0) 0xE2 ≡ t → get_or before r 0 ≡ 0xE2
+        go true e = eqb-true (get_or before r 0) 0xE2 e
+        go false e = absurd (z (lead-none v.packs pack-left (eqb-false (get_or before r 0) 0xE2 e)))
+
   -- where no packet starts: what `ended` answers
   module _ (n : (ltb r total && eqb (get_or us r 0) 0xE1) ≡ false) where
-    -- packs in order that do not end here begin with a carrier
-    no_start : r < total → fits left ≡ false
-    no_start h =
+    -- a pack that is left is no starter
+    no-start : r < total → eqb (get_or before r 0) 0xE1 ≡ false
+    no-start h =
         let k : get_or us r 0 ≡ get_or before r 0 = kept_at us before r v.kept in
-        let e : eqb (get_or before r 0) 0xE1 ≡ false =
-        ap (λ (i : ℕ). eqb i 0xE1) (sym k) ∙ (rw (lt-ltb r total h) at n) in
-        rw (first-pack v.packs h, e)
+        ap (λ (i : ℕ). eqb i 0xE1) (sym k) ∙ (rw (lt-ltb r total h) at n)
 
-    pub opening-ended : {q : Result Validated Refused} → q ≡ end_answer (order_from false r (packs_at us r total)) r (counted k w)
+    -- packs in order that do not begin with a carrier are the end
+    end-left : lead left ≡ 0 → in_order false left ≡ true → packs_end left ≡ true
+    unfolding packs_end
+    end-left z o = go (ltb r total) refl
+      where
+        go : (t : Bool) → ltb r total ≡ t → packs_end left ≡ true
+        go true e =
+            let h = ltb-true r total e in
+            order-ends v.packs h (λ c. lead-some v.packs h c z) (eqb-false (get_or before r 0) 0xE1 (no-start h)) o
+        go false e = rw (packs-none before r total (ltb-false r total e))
+
+    pub opening-ended : {q : Result Validated Refused} → q ≡ end_answer (packs_at us r total) (counted k w)
         → (y : System) → y.last ≡ last → Opens y (packets_of_packs y packs) q us
     opening-ended {q} c y e =
-        go (order_from false 0 packs) refl (c ∙ ap (λ (x : Option ℕ). end_answer x r (counted k w)) order-us)
+        go (in_order false packs) refl (eqb (lead left) 0) refl
+        (c ∙ ap (λ (s : List Five). end_answer s (counted k w)) left-us
+        ∙ ap (λ (b : Bool). cond b (cond (eqb (lead left) 0) (Ok (counted k w)) (Err (wrong_length k))) (Err wrong_order)) v.order)
       where
-        -- fill begins at `fill`: here, or a pack is left
-        ends : {fill : ℕ} → order_from false 0 packs ≡ Some fill → (b : Bool) → eqb fill r ≡ b
-            → q ≡ cond b (Ok (counted k w)) (Err (wrong_length k)) → Opens y (packets_of_packs y packs) q us
-        ends {fill} o true g c =
-            let u : used left ≡ 0 = let h = (left-place o).1 in let i = eqb-true fill r g in omega arith in
-            let d : packs_end left ≡ true =
-            ap (λ (m : ℕ). packs_end (drop m left)) (sym u) ∙ order-ends false left (left-place o).0 in
-            rw c (opening-done o d y e)
-        ends {fill} o false g c =
-            let h = (left-place o).1 in
-            let i = eqb-false fill r g in
-            let u : 0 < used left = omega arith in
-            let l = used-within left in
-            let m = packs-length v.packs in
-            let t : r < total = omega arith in
-            refused-opens (fourteen t (used-goes left u) o (no_start t) y e) (ap told_of c)
-
-        go : (o : Option ℕ) → order_from false 0 packs ≡ o → q ≡ end_answer o r (counted k w) → Opens y (packets_of_packs y packs) q us
-        go None f c = refused-opens (refused-order f y) (ap told_of c)
-        go (Some fill) f c = ends f (eqb fill r) refl c
+        go : (a : Bool) → in_order false packs ≡ a → (b : Bool) → eqb (lead left) 0 ≡ b
+            → q ≡ cond a (cond b (Ok (counted k w)) (Err (wrong_length k))) (Err wrong_order) → Opens y (packets_of_packs y packs) q us
+        go false f b g c = refused-opens (refused-order f y) (ap told_of c)
+        go true f true g c = rw c (opening-done f (end-left (eqb-true (lead left) 0 g) (v.order ∙ f)) y e)
+        go true f false g c =
+            let z = eqb-false (lead left) 0 g in
+            let h = pack-left z in
+            let shut : fits left ≡ false = rw (first-pack v.packs h, no-start h) in
+            refused-opens (fourteen h (goes-on v.packs h (carrier-left z) refl) f shut y e) (ap told_of c)
 
   -- one packet more
   module _ (starts : (ltb r total && eqb (get_or us r 0) 0xE1) ≡ true) where
@@ -362,19 +376,18 @@ module _ {last : ℕ} {before us : List ℕ} {total r w k : ℕ} (v : Opening la
 
     -- which is no end
     left-goes : packs_end left ≡ false
-    left-goes =
-        let u : used left ≡ suc (used (packs_at before (r + 5) total)) = rw (first-pack v.packs packet-left, starter-there) refl in
-        used-goes left (omega arith)
+    left-goes = goes-on v.packs packet-left starter-there refl
 
     -- its packs do not pass 14: 13, where they are not in order, or 14
     pub refused-packet : {refusal : Refusal} → NotMoved us r total refusal → (y : System) → y.last ≡ last → {s : List ℕ}
         → Opens y (packets_of_packs y packs) (Err (placed refusal k)) s
-    refused-packet {refusal} o y e {s} = go (order_from false 0 packs) refl (o.order ∙ ap order_first order-us)
+    refused-packet {refusal} o y e {s} = go (in_order false packs) refl (o.order ∙ ap order_first order-us)
       where
-        go : (x : Option ℕ) → order_from false 0 packs ≡ x → refusal ≡ order_first x → Opens y (packets_of_packs y packs) (Err (placed refusal k)) s
-        go None f q = refused-opens (refused-order f y) (ap (λ (i : Refusal). Err (told (placed i k))) q)
-        go (Some fill) f q =
-            refused-opens (fourteen packet-left left-goes f (ap fits (sym left-us) ∙ o.shut) y e) (ap (λ (i : Refusal). Err (told (placed i k))) q)
+        go : (b : Bool) → in_order false packs ≡ b → refusal ≡ order_first b → Opens y (packets_of_packs y packs) (Err (placed refusal k)) s
+        go false f q = refused-opens (refused-order f y) (ap (λ (i : Refusal). Err (told (placed i k))) q)
+        go true f q =
+            refused-opens (fourteen packet-left left-goes f (ap fits (sym left-us) ∙ o.shut) y e)
+            (ap (λ (i : Refusal). Err (told (placed i k))) q)
 
     -- after the packet was opened
     module _ {after : List ℕ} {next : ℕ} (o : MovedTo us after r total w next) where
@@ -435,10 +448,10 @@ module _ {last : ℕ} {before us : List ℕ} {total r w k : ℕ} (v : Opening la
       after_is = ap after_carriers left_is ∙ sym behind-is
 
       -- in order where all are
-      order_is : order_from false next (packs_at before next total) ≡ order_from false 0 packs
+      order_is : in_order false (packs_at before next total) ≡ in_order false packs
       order_is =
           let n = next-is in
-          ap (order_from false next) (sym (kept-packs us before r v.kept next total (omega arith))) ∙ o.same ∙ order-us
+          ap (in_order false) (sym (kept-packs us before r v.kept next total (omega arith))) ∙ o.same ∙ order-us
 
       -- they are whole, and as they were
       pub next-within : length after ≡ length us → Within after next total
@@ -507,15 +520,14 @@ module _ {last : ℕ} {before us : List ℕ} {total r w k : ℕ} (v : Opening la
 
           -- 15, 16, 20, where the packs are in order: what `refused` answers
           pub refused-other : (fault : Refused) → Err (told fault) ≡ c → {r : Refused}
-              → r ≡ order_before (order_from false next (packs_at after next total)) fault → (y : System) → y.last ≡ last → {s : List ℕ}
+              → r ≡ order_before (in_order false (packs_at after next total)) fault → (y : System) → y.last ≡ last → {s : List ℕ}
               → Opens y (packets_of_packs y packs) (Err r) s
           refused-other fault m {r} g y e {s} =
-              go (order_from false 0 packs) refl
-              (g ∙ ap (λ (i : Option ℕ). order_before i fault) (ap (order_from false next) next-kept ∙ order_is))
+              go (in_order false packs) refl (g ∙ ap (λ (b : Bool). order_before b fault) (ap (in_order false) next-kept ∙ order_is))
             where
-              go : (x : Option ℕ) → order_from false 0 packs ≡ x → r ≡ order_before x fault → Opens y (packets_of_packs y packs) (Err r) s
-              go None f g = refused-opens (refused-order f y) (ap (λ (i : Refused). Err (told i)) g)
-              go (Some fill) f g =
+              go : (b : Bool) → in_order false packs ≡ b → r ≡ order_before b fault → Opens y (packets_of_packs y packs) (Err r) s
+              go false f g = refused-opens (refused-order f y) (ap (λ (i : Refused). Err (told i)) g)
+              go true f g =
                   let a = some-told (bytes_fault y bytes) k (told fault) (m ∙ answer_is y e) in
                   refused-opens (in_order_lem f y (refused-fault packet-left left-goes _ a.0 y e (left-fault y)))
                   (ap (λ (i : Refused). Err (told i)) g ∙ ap (λ (t : Told). Err t) a.1)

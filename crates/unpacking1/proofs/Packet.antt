@@ -14,12 +14,12 @@ use lib.Seq.{drop-cons, length-take-le, take-length, sets, length-sets}
 use borrow.Author.Tests.{ltb-true, ltb-false, eq-eqb, eqb-true, eqb-false, ne_eqb}
 use Rattle.rules.specs.Base.{all_is}
 use Rattle.rules.specs.Packing1.{Five, carriers_for}
-use Rattle.rules.specs.Reading.{lead, carried, front_bytes, carriers_fit}
+use Rattle.rules.specs.Reading.{lead, carried, front_bytes, carriers_fit, in_order}
 use Rattle.rules.proofs.Basics.{never, both, second-false, sets-front, sets_behind}
 use Rattle.rules.proofs.Packs.{lead-within}
 use Rattle.rules.specs.declared.Refusal.{Refusal}
 use Rattle.rules.specs.declared.Refusal.TheVariants.{Packs}
-use Rattle.unpacking1.specs.Open.{packs_at, Within, order_from, SameOrder, fits, EndsAt, all_carriers, Moved, CarriersOpened}
+use Rattle.unpacking1.specs.Open.{packs_at, Within, SameOrder, fits, EndsAt, all_carriers, Moved, CarriersOpened}
 use Rattle.unpacking1.specs.Open.{order_first, MovedTo, NotMoved}
 use Rattle.unpacking1.proofs.Packs.{kept-later, kept_at, kept-packs, window-part, pack_at, packs-cons, packs-none, packs-drop, packs-take}
 use Rattle.unpacking1.proofs.Packs.{packs-length, first-pack, behind-first}
@@ -63,11 +63,11 @@ carried-length (p ∷ ps) = let k = carried-length ps in omega arith
 -- whether a carrier stands at a place
 module _ {us : List ℕ} {at end : ℕ} (w : Within us at end) (h : at < end) where
   -- none does
-  lead-none : (get_or us at 0 ≡ 0xE2 → ⊥) → lead (packs_at us at end) ≡ 0
+  pub lead-none : (get_or us at 0 ≡ 0xE2 → ⊥) → lead (packs_at us at end) ≡ 0
   lead-none n = rw (first-pack w h, ne_eqb (get_or us at 0) 0xE2 n)
 
   -- one does
-  lead-some : get_or us at 0 ≡ 0xE2 → lead (packs_at us at end) ≡ 0 → ⊥
+  pub lead-some : get_or us at 0 ≡ 0xE2 → lead (packs_at us at end) ≡ 0 → ⊥
   lead-some e z =
       let k : lead (packs_at us at end) ≡ suc (lead (packs_at us (at + 5) end)) = rw (first-pack w h, e) refl in
       omega arith
@@ -488,8 +488,8 @@ module _ {us : List ℕ} {at total stop : ℕ} (w : Within us at total) (e : End
             reach = h.reach;
             packs = record { reach = w.reach; all = omega arith; whole = w.whole };
             same =
-                ap (order_from false r) (sym (k r total h.reach)) ∙ h.same
-                ∙ ap (order_from false (at + 5)) (k (at + 5) total (omega arith));
+                ap (in_order false) (sym (k r total h.reach)) ∙ h.same
+                ∙ ap (in_order false) (k (at + 5) total (omega arith));
           }
 
       -- these are as they were
@@ -510,13 +510,13 @@ module _ {us : List ℕ} {at total stop : ℕ} (w : Within us at total) (e : End
       second-there = let p = stop_is in let i = e.within in omega arith
 
       -- behind a carrier their order is that of all packs from the packet on
-      rest-order : at + 5 < r → order_from false r (packs_at after r total) ≡ order_from false at (packs_at us at total)
+      rest-order : at + 5 < r → in_order false (packs_at after r total) ≡ in_order false (packs_at us at total)
       rest-order h =
           let c : get_or us (at + 5) 0 ≡ 0xE2 = sym (kept_at (headed us at to) us (at + 5) head-behind) ∙ v.first h in
-          ap (order_from false r) rest-there ∙ order-packet w second-there (e.starts) c same-us
+          ap (in_order false) rest-there ∙ order-packet w second-there (e.starts) c same-us
 
       -- one is no carrier: what `carriers_refusal` says
-      pub opened-shut : {q : Refusal} → (r ≡ stop → ⊥) → q ≡ cond (eqb r (at + 5)) Packs (order_first (order_from false r (packs_at after r total)))
+      pub opened-shut : {q : Refusal} → (r ≡ stop → ⊥) → q ≡ cond (eqb r (at + 5)) Packs (order_first (in_order false (packs_at after r total)))
           → NotMoved us at total q
       opened-shut {q} n f = record { shut = shut; order = f ∙ go (eqb r (at + 5)) refl }
         where
@@ -527,7 +527,7 @@ module _ {us : List ℕ} {at total stop : ℕ} (w : Within us at total) (e : End
           shut = carriers-shut (ap all_carriers (sym cs-kept) ∙ v.other less)
 
           go : (t : Bool) → eqb r (at + 5) ≡ t
-              → cond t Packs (order_first (order_from false r (packs_at after r total))) ≡ order_first (order_from false at (packs_at us at total))
+              → cond t Packs (order_first (in_order false (packs_at after r total))) ≡ order_first (in_order false (packs_at us at total))
           go true b =
               let k : r ≡ at + 5 = eqb-true r (at + 5) b in
               let no : get_or us (at + 5) 0 ≡ 0xE2 → ⊥ =
@@ -595,10 +595,10 @@ module _ {us : List ℕ} {at total stop : ℕ} (w : Within us at total) (e : End
           fits-unused = fits-front (all_are) ∙ ap (all_is 0xFF) (sym unused-is)
 
           -- 14: one of them is not FFh
-          pub packet-shut : {q : Refusal} → all_is 0xFF unused ≡ false → q ≡ order_first (order_from false stop (packs_at after stop total))
+          pub packet-shut : {q : Refusal} → all_is 0xFF unused ≡ false → q ≡ order_first (in_order false (packs_at after stop total))
               → NotMoved us at total q
           packet-shut f g =
-              let k = ap (λ (i : ℕ). order_from false i (packs_at after i total)) (sym y) ∙ rest-order passed in
+              let k = ap (λ (i : ℕ). in_order false (packs_at after i total)) (sym y) ∙ rest-order passed in
               record { shut = fits-unused ∙ f; order = g ∙ ap order_first k }
 
           -- all are FFh, and the packet is moved
@@ -606,11 +606,11 @@ module _ {us : List ℕ} {at total stop : ℕ} (w : Within us at total) (e : End
           packet-opened f =
               let g = front_bytes_lem all_are in
               let m = opened-moved in
-              let k = sym (ap (order_from false r) rest-there) ∙ rest-order passed in
+              let k = sym (ap (in_order false) rest-there) ∙ rest-order passed in
               record {
                 passes = fits-unused ∙ f;
                 place = e.place ∙ ap (λ (k : ℕ). at + 10 + (k + 3) / 4 * 5) (sym (ap (λ (s : List ℕ). get_or s 5 0) g ∙ dc-is));
                 within = e.within;
-                same = ap (λ (i : ℕ). order_from false i (packs_at us i total)) (sym y) ∙ k;
+                same = ap (λ (i : ℕ). in_order false (packs_at us i total)) (sym y) ∙ k;
                 moved = rw g m;
               }

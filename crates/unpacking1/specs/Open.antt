@@ -33,20 +33,11 @@ pub record Within (us : List ℕ) (at end : ℕ) : Type 0 where
 
 -- ---- their order
 
--- how many starters and carriers stand in front
-abbrev pub used : List Five → ℕ
-used [] = 0
-used (p ∷ ps) = cond (eqb p.b0 0xE1 || eqb p.b0 0xE2) (suc (used ps)) 0
-
--- where fill begins behind packs in order that stand at a place; none where the order is wrong
-unfoldable pub order_from : Bool → ℕ → List Five → Option ℕ
-order_from after at ps = cond (in_order after ps) (Some (at + 5 * used ps)) None
-
--- r is a place of a pack too, and the packs from there on are in order where those from `at` on are, with fill from the same place on
+-- r is a place of a pack too, and the packs from there on are in order where those from `at` on are
 pub record SameOrder (us : List ℕ) (at total r : ℕ) : Type 0 where
   pub reach : at ≤ r
   pub packs : Within us r total
-  pub same : order_from false r (packs_at us r total) ≡ order_from false at (packs_at us at total)
+  pub same : in_order false (packs_at us r total) ≡ in_order false (packs_at us at total)
 
 -- ---- one packet
 
@@ -89,23 +80,23 @@ pub record CarriersOpened (before after : List ℕ) (from stop to r : ℕ) : Typ
   pub kept : drop r after ≡ drop r before
   pub moved : r ≡ stop → Moved before after to (carried (packs_at before from stop)) stop
 
--- 13 before 14: what a packet that does not pass 14 is refused for, from where fill begins behind the packs
-abbrev pub order_first : Option ℕ → Refusal
-order_first None = Packs
-order_first (Some fill) = Length
+-- 13 before 14: what a packet that does not pass 14 is refused for, by whether the packs are in order
+abbrev pub order_first : Bool → Refusal
+order_first true = Length
+order_first false = Packs
 
 -- the bytes of the packet at a place were moved to another, and its packs end at `stop`, with those behind them in order where all are
 pub record MovedTo (before after : List ℕ) (at total to stop : ℕ) : Type 0 where
   pub passes : fits (packs_at before at total) ≡ true
   pub place : stop ≡ at + 10 + (get_or (front_bytes (packs_at before at total)) 5 0 + 3) / 4 * 5
   pub within : stop ≤ total
-  pub same : order_from false stop (packs_at before stop total) ≡ order_from false at (packs_at before at total)
+  pub same : in_order false (packs_at before stop total) ≡ in_order false (packs_at before at total)
   pub moved : Moved before after to (front_bytes (packs_at before at total)) stop
 
 -- it does not pass 14, and what it is refused for
 pub record NotMoved (before : List ℕ) (at total : ℕ) (refusal : Refusal) : Type 0 where
   pub shut : fits (packs_at before at total) ≡ false
-  pub order : refusal ≡ order_first (order_from false at (packs_at before at total))
+  pub order : refusal ≡ order_first (in_order false (packs_at before at total))
 
 -- what is answered of the packet at a place
 abbrev pub PacketOpened : List ℕ → List ℕ → ℕ → ℕ → ℕ → Result ℕ Refusal → Type 0
@@ -147,15 +138,15 @@ abbrev pub placed : Refusal → ℕ → Refused
 placed Packs k = wrong_order
 placed refusal k = record { refusal = refusal; place = k; word = 0 }
 
--- 13 before a packet's own fault, from where fill begins behind the packs
-abbrev pub order_before : Option ℕ → Refused → Refused
-order_before None fault = wrong_order
-order_before (Some fill) fault = fault
+-- 13 before a packet's own fault, by whether the packs are in order
+abbrev pub order_before : Bool → Refused → Refused
+order_before true fault = fault
+order_before false fault = wrong_order
 
--- what is answered at a place where no packet starts, behind packets that were opened, from where fill begins
-abbrev pub end_answer : Option ℕ → ℕ → Validated → Result Validated Refused
-end_answer None at opened = Err wrong_order
-end_answer (Some fill) at opened = cond (eqb fill at) (Ok opened) (Err (wrong_length opened.packets))
+-- what is answered where no packet starts, behind packets that were opened: 13, or 14 of carriers without a starter, or all of it was fill
+abbrev pub end_answer : List Five → Validated → Result Validated Refused
+end_answer ps opened =
+    cond (in_order false ps) (cond (eqb (lead ps) 0) (Ok opened) (Err (wrong_length opened.packets))) (Err wrong_order)
 
 -- 13, which is also given where the user bytes are not whole packs, then packet by packet
 unfoldable pub packets_of_fives : System → List ℕ → ℕ → Outcome

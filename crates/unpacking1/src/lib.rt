@@ -4,10 +4,10 @@
 
 ghost use Rattle.std.specs.Prelude.{◌≡◌, true, false, cond, ◌&&◌, ◌+◌, ◌-◌, ◌%◌, ◌≤◌, ◌<◌, eqb, ltb, leb, length, get_or, take, drop};
 ghost use Rattle.rules.specs.Base.{all_is};
+ghost use Rattle.rules.specs.Reading.{in_order};
 ghost use Rattle.rules.specs.Systems.{System};
 ghost use Rattle.unpacking1.specs.Open.{
   packs_at,
-  order_from,
   SameOrder,
   CarriersOpened,
   PacksEnd,
@@ -39,30 +39,30 @@ fn carriers_end(us: &[u8; 9360], at: usize, total: usize) -> usize
     end
 }
 
-// "every pack is a starter, a carrier or five FFh": where fill begins, or none where the order is wrong.
+// "every pack is a starter, a carrier or five FFh", and "nothing but fill follows fill"
 #[cycle(carrier_starter)]
-fn starter(us: &[u8; 9360], at: usize, total: usize) -> Option<usize>
+fn starter(us: &[u8; 9360], at: usize, total: usize) -> bool
     requires { Within us.now at total × (length us.now ≡ 9360) }
-    ensures { result ≡ order_from false at (packs_at us.now at total) }
+    ensures { result ≡ in_order false (packs_at us.now at total) }
 {
     if at == total {
-        return Some(at);
+        return true;
     }
     match us[at] {
         0xE2 => starter(us, at + 5, total),
         0xE1 => carrier(us, at + 5, total),
-        _ => danc::all_fill(&us[at..total]).then_some(at),
+        _ => danc::all_fill(&us[at..total]),
     }
 }
 
 // "each starter has a carrier after it"
 #[cycle(carrier_starter)]
-fn carrier(us: &[u8; 9360], at: usize, total: usize) -> Option<usize>
+fn carrier(us: &[u8; 9360], at: usize, total: usize) -> bool
     requires { Within us.now at total × (length us.now ≡ 9360) }
-    ensures { result ≡ order_from true at (packs_at us.now at total) }
+    ensures { result ≡ in_order true (packs_at us.now at total) }
 {
     if at == total || us[at] != 0xE2 {
-        return None;
+        return false;
     }
     starter(us, carriers_end(us, at + 5, total), total)
 }
@@ -120,18 +120,18 @@ fn unused_are_fill(us: &[u8], end: usize, full: usize) -> bool
 // 13 before 14: what a packet that does not pass 14 is refused for, by whether the packs from a place on are in order.
 fn order_refusal(us: &[u8; 9360], at: usize, total: usize) -> Refusal
     requires { Within us.now at total × (length us.now ≡ 9360) }
-    ensures { result ≡ order_first (order_from false at (packs_at us.now at total)) }
+    ensures { result ≡ order_first (in_order false (packs_at us.now at total)) }
 {
-    match starter(us, at, total) {
-        None => Refusal::Packs,
-        Some(_) => Refusal::Length,
+    if starter(us, at, total) {
+        return Refusal::Length;
     }
+    Refusal::Packs
 }
 
 // The same behind the starter before `first`, whose carriers end at `at`, where they should not: there has to be one.
 fn carriers_refusal(us: &[u8; 9360], first: usize, at: usize, total: usize) -> Refusal
     requires { Within us.now at total × (length us.now ≡ 9360) }
-    ensures { result ≡ cond (eqb at first) Refusal.Packs (order_first (order_from false at (packs_at us.now at total))) }
+    ensures { result ≡ cond (eqb at first) Refusal.Packs (order_first (in_order false (packs_at us.now at total))) }
 {
     if at == first {
         return Refusal::Packs;
@@ -200,21 +200,23 @@ fn placed(refusal: Refusal, k: usize) -> Refused
 // 13 before a packet's own fault: that fault, unless the packs from a place on are not in order.
 fn refused(us: &[u8; 9360], at: usize, total: usize, fault: Refused) -> Refused
     requires { Within us.now at total × (length us.now ≡ 9360) }
-    ensures { result ≡ order_before (order_from false at (packs_at us.now at total)) fault }
+    ensures { result ≡ order_before (in_order false (packs_at us.now at total)) fault }
 {
-    if starter(us, at, total).is_none() {
-        return WRONG_ORDER;
+    if starter(us, at, total) {
+        return fault;
     }
-    fault
+    WRONG_ORDER
 }
 
 // Where no packet starts: fill to the end, behind the packets that were opened; else 13, or 14 of carriers without a starter.
 fn ended(us: &[u8; 9360], at: usize, total: usize, opened: Validated) -> Result<Validated, Refused>
     requires { Within us.now at total × (length us.now ≡ 9360) }
-    ensures { result ≡ end_answer (order_from false at (packs_at us.now at total)) at opened }
+    ensures { result ≡ end_answer (packs_at us.now at total) opened }
 {
-    let fill = starter(us, at, total).ok_or(WRONG_ORDER)?;
-    if fill != at {
+    if !starter(us, at, total) {
+        return Err(WRONG_ORDER);
+    }
+    if at < total && us[at] == 0xE2 {
         return Err(placed(Refusal::Length, opened.packets));
     }
     Ok(opened)
