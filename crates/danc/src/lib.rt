@@ -194,6 +194,17 @@ fn ends(room: usize, s: &[u8]) -> bool
     s.len() < room && all_fill(s)
 }
 
+// One packet more.
+fn one_more(run: Validated, size: usize) -> Validated
+    requires { (run.packets < limit) × (run.end + size ≤ 9360) }
+    ensures { (result.packets ≡ run.packets + 1) × (result.end ≡ run.end + size) }
+{
+    Validated {
+        packets: run.packets + 1,
+        end: run.end + size,
+    }
+}
+
 // Packet k is refused.
 fn refused(refusal: Refusal, k: usize) -> Refused
     ensures { told result ≡ tell (number refusal) k 0 }
@@ -206,65 +217,65 @@ fn refused(refusal: Refusal, k: usize) -> Refused
 }
 
 // "A string is nothing, or one packet and then a string that is shorter by that packet": the bytes left fall at each call. At a
-// packet boundary the end is tested, then "5 | .. after [1,275] packets, not the end", 14, 15, 16, 20. Over an array the calls become a loop.
+// packet boundary the end is tested, then "5 | .. after [1,275] packets, not the end", 14, 15, 16, 20. Over an array, and with an answer that
+// is written where it is kept, the calls become a loop; a `Result` that each handed to the one before it would keep them calls.
 fn packets_from(
     last: Line,
     room: usize,
     us: &[u8; 9360],
     end: usize,
-    at: usize,
-    k: usize,
-) -> Result<Validated, Refused>
-    requires { (length us.now ≡ 9360) × Within end at k }
-    ensures { (y : System) → y.last ≡ last.0 → told_of result ≡ validated y room (take end us.now) at k }
+    run: Validated,
+    answer: &mut Result<Validated, Refused>,
+)
+    requires { (length us.now ≡ 9360) × Within end run.end run.packets }
+    ensures { (y : System) → y.last ≡ last.0 → told_of answer.new ≡ validated y room (take end us.now) run.end run.packets }
 {
     let s = &us[..];
-    if ends(room, &s[at..end]) {
-        return Ok(Validated {
-            packets: k,
-            end: at,
-        });
+    let k = run.packets;
+    if ends(room, &s[run.end..end]) {
+        *answer = Ok(run);
+        return;
     }
     if k == LIMIT {
-        return Err(refused(Refusal::PacketLimit, k));
+        *answer = Err(refused(Refusal::PacketLimit, k));
+        return;
     }
-    match fault(last, &s[at..end]) {
-        Ok(size) => packets_from(last, room, us, end, at + size, k + 1),
-        Err(refusal) => Err(refused(refusal, k)),
+    match fault(last, &s[run.end..end]) {
+        Ok(size) => packets_from(last, room, us, end, one_more(run, size), answer),
+        Err(refusal) => *answer = Err(refused(refusal, k)),
     }
 }
 
 // Up to where a packet that begins is surely within the string, since the longest has 262 bytes, and surely not one too many, since the
 // shortest has 7.
-fn stop_of(end: usize, at: usize, k: usize) -> usize
-    requires { Within end at k }
-    ensures { Stop end at k result }
+fn stop_of(end: usize, run: Validated) -> usize
+    requires { Within end run.end run.packets }
+    ensures { Stop end run.end run.packets result }
 {
-    end.saturating_sub(261).min(at + 7 * (LIMIT - k))
+    end.saturating_sub(261)
+        .min(run.end + 7 * (LIMIT - run.packets))
 }
 
-// The packets in front that have no fault are passed over, as long as they begin before `stop`, where neither the end nor 5 nor 14 has to be
-// tested; from there on the string gives the same answer. It is handed on as it is: an answer of two numbers would be taken apart at each call, and
-// the calls would become no loop.
+// The packets in front that have no fault, as long as they begin before `stop`, where neither the end nor 5 nor 14 has to be tested. From where
+// the last of them ends the string gives the same answer.
 fn sound_run(
     lines: &[u64; 32],
-    last: Line,
-    room: usize,
     us: &[u8; 9360],
     end: usize,
     stop: usize,
-    at: usize,
-    k: usize,
-) -> Result<Validated, Refused>
-    requires { (length us.now ≡ 9360) × Within end at k × Stop end at k stop }
-    ensures { (y : System) → y.last ≡ last.0 → lines.now ≡ lines_of y.last → told_of result ≡ validated y room (take end us.now) at k }
+    run: Validated,
+) -> Validated
+    requires { Within end run.end run.packets × Stop end run.end run.packets stop }
+    ensures within { Within end result.end result.packets }
+    ensures same { (y : System) → lines.now ≡ lines_of y.last → (room : ℕ)
+        → validated y room (take end us.now) result.end result.packets ≡ validated y room (take end us.now) run.end run.packets }
 {
     let s = &us[..];
-    if at < stop && is_sound(lines, &s[at..end]) {
-        let size = wide(us[at + 5]) + 7;
-        return sound_run(lines, last, room, us, end, stop, at + size, k + 1);
+    if run.end < stop && is_sound(lines, &s[run.end..end]) {
+        let size = wide(us[run.end + 5]) + 7;
+        return sound_run(lines, us, end, stop, one_more(run, size));
     }
-    packets_from(last, room, us, end, at, k)
+    run
 }
 
 // The string that ends at `end`, from place `at` on, where packet k begins. Out of the bounds of a frame nothing is read, so that no sum can wrap.
@@ -284,7 +295,14 @@ pub fn validate(
         return Err(refused(Refusal::Length, k));
     }
     let lines = lines_of(last);
-    sound_run(&lines, last, room, us, end, stop_of(end, at, k), at, k)
+    let before = Validated {
+        packets: k,
+        end: at,
+    };
+    let run = sound_run(&lines, us, end, stop_of(end, before), before);
+    let mut answer = Ok(run);
+    packets_from(last, room, us, end, run, &mut answer);
+    answer
 }
 
 // The whole packet from `at` to `end` that is packet k. What is refused is told by the validation of a string that ends there; with room for

@@ -3,4 +3,4 @@ use Rattle.std.proofs.Common.{◌-◌}
 use Rattle.danc.proofs.+packets_from.Given as goal
 
 abbrev pub decreases-packets_from : goal.decreases-packets_from
-decreases-packets_from l = l.end - l.at
+decreases-packets_from l = l.end - l.run.end

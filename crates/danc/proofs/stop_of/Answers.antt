@@ -3,9 +3,9 @@ use Rattle.std.proofs.Common.{arith}
 use Rattle.rules.specs.Sheet.{limit}
 use Rattle.danc.proofs.stop_of.Goals as goal
 
-pub overflow_sub-k : goal.overflow_sub-k
+pub overflow_sub-run : goal.overflow_sub-run
 unfolding limit
-overflow_sub-k c = omega (arith, c.requires.packet)
+overflow_sub-run c = omega (arith, c.requires.packet)
 
 pub returns : goal.returns
 unfolding limit

@@ -1,7 +1,8 @@
 -- Out of the bounds nothing is asked; within them it is the run in front, and what follows it.
-use Rattle.std.proofs.Common.{arith}
+use Rattle.std.proofs.Common.{sym, ap, ◌∙◌, arith}
 use mathlib.Core.Logic.{⊎_elim}
 use Rattle.rules.specs.Sheet.{limit}
+use Rattle.frame.specs.Lines.{lines_of}
 use Rattle.danc.proofs.validate.Goals as goal
 
 pub returns-then-end-gt-LONGEST : goal.returns-then-end-gt-LONGEST
@@ -13,6 +14,12 @@ pub stop_of-requires : goal.stop_of-requires
 unfolding limit
 stop_of-requires c = record { short = omega arith; place = omega arith; packet = omega arith }
 
-pub sound_run-requires : goal.sound_run-requires
+pub sound_run-run-requires : goal.sound_run-run-requires
 unfolding limit
-sound_run-requires c = (c.told-us, record { short = omega arith; place = omega arith; packet = omega arith }, c.stop_of.ensures)
+sound_run-run-requires c = (record { short = omega arith; place = omega arith; packet = omega arith }, c.stop_of.ensures)
+
+pub packets_from-requires : goal.packets_from-requires
+packets_from-requires c = (c.told-us, c.sound_run-run.ensures.within)
+
+pub returns : goal.returns
+returns c y e w = c.packets_from.ensures y e ∙ c.sound_run-run.ensures.same y (c.lines_of-lines.ensures ∙ ap lines_of (sym e)) _
