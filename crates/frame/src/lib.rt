@@ -137,7 +137,8 @@ pub fn block_start(n: Sequences, channel: Channel, sequence: Sequence, block: u8
 }
 
 // Reading takes the user bytes as one run: they go to the start of `us` in laying order (001, table 4), and their number comes back.
-// Where the system is not known or the area is of another length that is 0, and `us` stays as it is.
+// Where the system is not known or the area is of another length that is 0, and `us` stays as it is. No Option: who needs the number has tested both,
+// and would have an arm that never runs.
 pub fn collect(system: u64, area: &[u8], us: &mut [u8; 9360]) -> usize
     ensures value { result ≡ collected system area.now }
     ensures us_after { us.new ≡ bytes_after system area.now us.old }
