@@ -4,10 +4,10 @@
 -- Assumes nothing.
 use Prim.Native.Nat.{ℕ, zero, suc, ◌+◌, ◌-◌, ◌*◌, ◌/◌, ◌%◌, ◌≤◌, ◌<◌}
 use mathlib.Core.Path.{◌≡◌, refl, sym, ap, ap₂, ◌∙◌}
-use mathlib.Core.List.{List, [], ◌∷◌, ◌++◌, map, map-append}
+use mathlib.Core.List.{List, [], ◌∷◌, ◌++◌, map}
 use native.Mathlib.Omega.{arith}
-use lib.ListN.{length, get_or, take, drop, length-drop, length-map, get_or-eq_default}
-use lib.Seq.{sets, get_or-drop, get_or-take, drop-drop, drop_at, take_at, length-take-le}
+use lib.ListN.{length, get_or, take, drop, length-drop}
+use lib.Seq.{sets, get_or-drop, drop-drop, take_at, length-take-le}
 use Rattle.rules.specs.Base.{sum, joined}
 use Rattle.rules.specs.Systems.{System}
 use Rattle.rules.specs.Packet.{Packet, words, coded, check_of, Sound}
@@ -41,9 +41,6 @@ low-at : (ws : List ℕ) (i : ℕ) → i < length ws → get_or (map low ws) i 0
 low-at [] i h = absurd (omega arith)
 low-at (w ∷ ws) zero h = refl
 low-at (w ∷ ws) (suc i) h = low-at ws i (omega arith)
-
-low-none : (ws : List ℕ) (i : ℕ) → length ws ≤ i → get_or (map low ws) i 0xFF ≡ 0xFF
-low-none ws i h = let l = length-map ws low in get_or-eq_default (map low ws) 0xFF (omega arith)
 
 -- ---- carriers
 
@@ -122,11 +119,6 @@ module _ (words : List ℕ) (whole : 7 ≤ length words) where
 
   abbrev words-behind : List ℕ
   words-behind = drop 3 words
-
-  pub part-long : 4 * full ≤ length (take (length words - 3) (drop 3 words))
-  part-long =
-      let l : length (take (length words - 3) (drop 3 words)) ≡ length words - 3 = ap length (rest_part 3 words) ∙ length-drop 3 words in
-      omega arith
 
   left-bytes : map low (last_words rest words) ≡ drop (4 * full) (map low words-behind)
   left-bytes =

@@ -3,23 +3,22 @@
 -- In order: low bytes; the sections of a sheet; the packet at a place of section C; what a sound packet's words give; the packets that
 -- are left; their header bytes; a walk through section B; a loop that lays headers.
 -- Assumes nothing.
-use Prim.Native.Nat.{ℕ, zero, suc, ◌+◌, ◌-◌, ◌*◌, ◌/◌, ◌%◌, ◌≤◌, ◌<◌}
+use Prim.Native.Nat.{ℕ, zero, suc, ◌+◌, ◌*◌, ◌/◌, ◌%◌, ◌≤◌, ◌<◌}
 use mathlib.Core.Path.{◌≡◌, refl, sym, ap, ◌∙◌}
 use mathlib.Core.Bool.{cond}
 use mathlib.Core.List.{List, [], ◌∷◌, ◌++◌, map, map-append, append_assoc}
 use native.Mathlib.Omega.{arith}
 use native.Mathlib.Numerals.{add-one}
 use lib.Dec.{eqb}
-use lib.ListN.{length, get_or, take, drop, set, length-append, length-drop, length-map, length-set, drop_of_length-le}
-use lib.Seq.{sets, set-set, set_comm, get_or-drop, drop-cons, drop-drop, drop_at, take_all, take-nil}
+use lib.ListN.{length, get_or, drop, set, length-append, length-drop, length-map, length-set, drop_of_length-le}
+use lib.Seq.{sets, set-set, set_comm, get_or-drop, drop-cons, drop-drop, drop_at}
 use Rattle.rules.specs.Base.{All, one}
 use Rattle.rules.specs.Systems.{System, system}
 use Rattle.rules.specs.Packet.{Packet, words, coded, check_of, Sound}
 use Rattle.rules.specs.Danc.{written, header, behind, danc, string, bytes_of}
-use Rattle.rules.specs.Sheet.{locations, all_words, count_in, locations_in, words_in}
+use Rattle.rules.specs.Sheet.{locations, all_words, locations_in, words_in}
 use Rattle.rules.specs.Laying.{low}
 use Rattle.rules.specs.Demands.{SheetOf}
-use Rattle.rules.proofs.Basics.{rest_part}
 use Rattle.rules.proofs.Blocks.{facts-of}
 use Rattle.rules.proofs.Lines.{allowed-last}
 use Rattle.rules.proofs.Sheets.{locations-back, words_back}
@@ -39,25 +38,6 @@ pub low_end : (ws s goal : List ℕ) (i : ℕ) → length ws ≤ i → sets s i 
 low_end ws s goal i h was = rw (drop_of_length-le ws h) at was
 
 -- ---- the sections of a sheet
-
--- section B, as the code cuts it: of too few numbers, of too few pairs, whole
-module _ (s : List ℕ) where
-  pub b-none : length s < 3 → [] ≡ locations_in s
-  b-none h = let n : drop 3 s ≡ [] = drop_of_length-le s {i = 3} (omega arith) in rw (n, take-nil (2 * count_in s))
-
-  module _ (p : ℕ) (is : p ≡ count_in s) where
-    pub b-cut : length s < 3 + 2 * p → take (length s - 3) (drop 3 s) ≡ locations_in s
-    b-cut h = let l = length-drop 3 s in take_all (length s - 3) (drop 3 s) (omega arith) ∙ sym (take_all (2 * count_in s) (drop 3 s) (omega arith))
-
-    pub b-whole : take (3 + 2 * p - 3) (drop 3 s) ≡ locations_in s
-    b-whole = ap (λ (n : ℕ). take n (drop 3 s)) (let e : 3 + 2 * p - 3 ≡ 2 * count_in s = omega arith in e)
-
-  -- section C: of too few numbers, and whole
-  pub c-none : length s < 4 + 2 * count_in s → [] ≡ words_in s
-  c-none h = sym (drop_of_length-le s {i = 4 + 2 * count_in s} (omega arith))
-
-  pub c-whole : (p : ℕ) → p ≡ count_in s → take (length s - (4 + 2 * p)) (drop (4 + 2 * p) s) ≡ words_in s
-  c-whole p is = rest_part (4 + 2 * p) s ∙ ap (λ (n : ℕ). drop (4 + 2 * n) s) is
 
 -- the sections of a list's sheet are the list's
 pub sections-of : {sys : ℕ} {ps : List Packet} {s ls ws : List ℕ} → ls ≡ locations_in s → ws ≡ words_in s → SheetOf sys ps s

@@ -135,21 +135,9 @@ module _ (sys packets w : ℕ) (ps : List Packet) (out ls : List ℕ) (hp : pack
   counted-long : length counted ≡ length out
   counted-long = length-set before mid w ∙ sheet-before
 
-  -- what is lent for the words
-  pub sheet-lent : length (take (length counted - (mid + 1)) (drop (mid + 1) counted)) ≡ w
-  sheet-lent =
-      let c = counted-long in
-      let d = length-drop (mid + 1) counted in
-      length-take-le (length counted - (mid + 1)) (drop (mid + 1) counted) (omega arith) ∙ (omega arith)
-
   module _ (ws : List ℕ) (e : ws ≡ all_words ps) where
     ws-long : length ws ≡ length counted - (mid + 1)
     ws-long = let c = counted-long in ap length e ∙ (omega arith)
-
-    pub sheet-long : length (take (mid + 1) counted ++ (ws ++ drop (length counted - (mid + 1)) (drop (mid + 1) counted))) ≡ length out
-    sheet-long =
-        let c = counted-long in
-        part-long counted ws (mid + 1) (length counted) (omega arith) (omega arith) ws-long ∙ c
 
     pub sheet-filled : take (mid + 1) counted ++ (ws ++ drop (length counted - (mid + 1)) (drop (mid + 1) counted)) ≡ sheet_of sys ps
     unfolding sheet_of

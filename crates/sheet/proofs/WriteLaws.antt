@@ -180,7 +180,8 @@ module _ (us : List ℕ) (end at k : ℕ) (inside : end ≤ length us) where
           rw (q, le-leb at end (omega arith)) (sym (few (omega arith) (omega arith)))
       go false true p q =
           let e = eqb-true at end q in
-          rw (q, le-leb at end (omega arith), shown-none (drop at s) (left ∙ (omega arith))) (let n : k ≡ k + 0 = omega arith in ap (λ (m : ℕ). Some m) n)
+          let n : k ≡ k + 0 = omega arith in
+          rw (q, le-leb at end (omega arith), shown-none (drop at s) (left ∙ (omega arith))) (ap (λ (m : ℕ). Some m) n)
       go false false p q =
           let l = ltb-false at end p in
           let n = eqb-false at end q in

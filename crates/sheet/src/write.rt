@@ -33,25 +33,19 @@ fn line_of(h0: u8, h1: u8) -> u16
 fn stop_of(end: usize) -> usize
     ensures { result ≡ min end 9354 }
 {
-    if end < NO_PACKET {
-        return end;
-    }
-    NO_PACKET
+    end.min(NO_PACKET)
 }
 
 // Whole packets end where the string does.
 fn measured(end: usize, at: usize, k: usize) -> Option<usize>
     ensures { result ≡ cond (eqb at end) (Some k) None }
 {
-    if at == end {
-        return Some(k);
-    }
-    None
+    (at == end).then_some(k)
 }
 
 // "A string is nothing, or one packet and then a string that is shorter by that packet": how many packets stand from `at` to `end`, and
-// k before them; none where the bytes are not whole packets. The bytes left fall at each call. Over an array the calls become a loop. It asks of each packet
-// only whether one starts: one that is cut leads past the end, and whether the last ended there is asked once.
+// k before them; none where the bytes are not whole packets. The bytes left fall at each call. Over an array the calls become a loop. It asks
+// of each packet only whether one starts: one that is cut leads past the end, and whether the last ended there is asked once.
 fn measure(us: &[u8; 9360], stop: usize, end: usize, at: usize, k: usize) -> Option<usize>
     requires { (length us.now ≡ 9360) × (end ≤ 9360) × (stop ≡ min end 9354) × (k ≤ at) }
     ensures { result ≡ count_to end at k us.now }
@@ -69,14 +63,12 @@ fn write_locations(s: &[u8], out: &mut [u16])
     ensures { out.new ≡ locations (packets_shown s.now) }
 {
     let mut at = 0;
-    let mut i = 0;
-    while at < s.len() {
+    for k in 0..out.len() / 2 {
         let h1 = s[at + 1];
         let line = line_of(s[at], h1);
         let flags = danc::flags_of(h1);
-        out[i] = line;
-        out[i + 1] = flags;
-        i += 2;
+        out[2 * k] = line;
+        out[2 * k + 1] = flags;
         at += wide(s[at + 5]) + 7;
     }
 }
@@ -86,10 +78,8 @@ fn write_coded(s: &[u8], out: &mut [u16])
     requires { length out.old ≡ length s.now }
     ensures { out.new ≡ map word s.now }
 {
-    let mut i = 0;
-    while i < s.len() {
-        out[i] = packet::word_of(s[i]);
-        i += 1;
+    for (i, b) in s.iter().enumerate() {
+        out[i] = packet::word_of(*b);
     }
 }
 
@@ -112,7 +102,7 @@ pub fn write_words(table: &[u16; 256], bytes: &[u8], out: &mut [u16])
     requires { table.now ≡ word_table }
     ensures { out.new ≡ words_after bytes.now out.old }
 {
-    if out.len() < 4 || out.len() - 4 != bytes.len() {
+    if out.len() != bytes.len() + 4 {
         return;
     }
     if bytes.len() < FEW {
@@ -154,13 +144,11 @@ fn write_looked_up(table: &[u16; 256], s: &[u8], out: &mut [u16]) -> u32
     ensures out_after { out.new ≡ map word s.now }
     ensures result_value { (result % 512 ≡ sum9 (map word s.now) % 512) × (result ≤ 260865) }
 {
-    let mut i = 0;
-    let mut sum: u32 = 0;
-    while i < s.len() {
-        let w = look_up(table, s[i]);
+    let mut sum = 0;
+    for (i, b) in s.iter().enumerate() {
+        let w = look_up(table, *b);
         out[i] = w;
-        sum += w as u32;
-        i += 1;
+        sum += u32::from(w);
     }
     sum
 }
@@ -195,7 +183,7 @@ fn write_head(table: &[u16; 256], s: &[u8], out: &mut [u16]) -> u32
     out[3] = did;
     out[4] = sdid;
     out[5] = dc;
-    did as u32 + sdid as u32 + dc as u32
+    u32::from(did) + u32::from(sdid) + u32::from(dc)
 }
 
 // The words of one packet from its own bytes, header and all.
@@ -248,10 +236,7 @@ fn write_sections(system: u16, packets: usize, s: &[u8], out: &mut [u16])
 fn within(end: usize) -> usize
     ensures { (result ≤ 9360) × ((s : List ℕ) → length s ≡ 9360 → take result s ≡ take end s) }
 {
-    if end < LONGEST {
-        return end;
-    }
-    LONGEST
+    end.min(LONGEST)
 }
 
 // The sheet of the packets of a string, which is `us` up to `end`, at the start of a buffer; its numbers are counted. None, and nothing

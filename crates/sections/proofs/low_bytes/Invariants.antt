@@ -1,5 +1,5 @@
 -- The bytes that are left, stored from i on, give the whole.
-use Rattle.std.proofs.Common.{◌≡◌, map, length, drop}
+use Rattle.std.proofs.Common.{◌≡◌, map, drop}
 use Rattle.std.proofs.lemmas.List.Edits.{sets}
 use Rattle.rules.specs.Laying.{low}
 use Rattle.sections.proofs.low_bytes.Given as goal

@@ -4,15 +4,15 @@
 -- Assumes nothing.
 use Prim.Native.Nat.{ℕ, zero, suc, ◌+◌, ◌-◌, ◌*◌, ◌%◌, ◌≤◌, ◌<◌}
 use mathlib.Core.Path.{◌≡◌, refl, sym, ap, ap₂, ◌∙◌}
-use mathlib.Core.Bool.{true, false}
+use mathlib.Core.Bool.{Bool, true, false}
 use mathlib.Core.List.{List, [], ◌∷◌, ◌++◌, map}
 use Rattle.std.proofs.Common.{Option, Some, None}
 use native.Mathlib.Omega.{arith}
 use native.Mathlib.Numerals.{add-one, add-three, add_seven}
-use lib.Dec.{leb, leb-zero}
+use lib.Dec.{ltb, leb, leb-zero}
 use lib.ListN.{length, get_or, take, drop, set, length-append, length-drop, length-set, length-map, take-append-drop}
-use lib.Seq.{length-take-le, get_or-take, get_or-drop, drop-cons, drop-drop, take-add, take_at, drop_at, take_all, take-take, take-suc-set}
-use borrow.Author.Tests.{lt-leb, le-leb, ne_eqb}
+use lib.Seq.{length-take-le, get_or-take, get_or-drop, drop-drop, take-add, take_at, drop_at, take_all, take-take, take-suc-set}
+use borrow.Author.Tests.{ltb-true, ltb-false, lt-leb, le-leb, ne_eqb}
 use Rattle.rules.specs.Packet.{Packet, body, ones, parity, word, sum9, check, coded, check_of, words}
 use Rattle.rules.specs.Sheet.{locations, all_words, sheet_of}
 use Rattle.rules.specs.Numbers.{Outcome, listed, refused}
@@ -25,26 +25,11 @@ use Rattle.packet.proofs.Laws.{table_at, check-of-sum}
 use Rattle.packet.proofs.Faults.{heads}
 use Rattle.sheet.specs.Write.{size_in, shown, has_room, wrote_of, wrote, after_of, sheet_after, framed, words_after, list_in, packets_shown, Whole}
 use Rattle.sheet.specs.Write.{head_of, id_sum, Measured, count_from, count_to}
-use Rattle.sheet.proofs.Filling.{one_more, two-more, part-long, part-behind, part-front, part-more, all-written}
-use Rattle.sheet.proofs.Filling.{three_of, back_of, three-tail, back_long, back-set, sheet-before, sheet-lent, sheet-long, sheet-filled}
+use Rattle.sheet.proofs.Filling.{two-more, part-long, part-behind, part-front, part-more, all-written}
+use Rattle.sheet.proofs.Filling.{three_of, back_of, three-tail, back_long, back-set, sheet-filled}
 use Rattle.sheet.proofs.WriteLaws.{words-after, size-at, words_long, whole_long, words-short, pass, passed-all}
 
 -- ---- bytes as words
-
-pub coded-more : (s out : List ℕ) (i w : ℕ) → i < length s → length out ≡ length s → w ≡ word (get_or s i 0)
-    → take i out ++ map word (drop i s) ≡ map word s → take (i + 1) (set out i w) ++ map word (drop (i + 1) s) ≡ map word s
-coded-more s out i w h l e inv =
-    one_more out i w (map word (drop (i + 1) s)) (omega arith)
-    ∙ rw (e, add-one i) (ap (λ (t : List ℕ). take i out ++ map word t) (sym (drop-cons s i 0 h)))
-    ∙ inv
-
--- with the sum of the words: their bits 9 fall out modulo 512
-pub sum_more : (s : List ℕ) (i w sum goal : ℕ) → i < length s → w ≡ word (get_or s i 0) → (sum + sum9 (map word (drop i s))) % 512 ≡ goal
-    → (sum + w + sum9 (map word (drop (i + 1) s))) % 512 ≡ goal
-sum_more s i w sum goal h e inv =
-    let d : sum9 (map word (drop i s)) ≡ w % 512 + sum9 (map word (drop (i + 1) s)) =
-    rw (e, add-one i) (ap (λ (t : List ℕ). sum9 (map word t)) (drop-cons s i 0 h)) in
-    omega arith
 
 -- a part of them
 map-take : (n : ℕ) (s : List ℕ) → take n (map word s) ≡ map word (take n s)
@@ -65,30 +50,26 @@ pub record Locating (s out : List ℕ) (at i : ℕ) : Type 0 where
   pub left : i + 2 * length (packets_shown (drop at s)) ≡ length out
   pub rest : take i out ++ locations (packets_shown (drop at s)) ≡ locations (packets_shown s)
 
-pub locating-none : (s out : List ℕ) → Whole s → length out ≡ 2 * length (packets_shown s) → Locating s out 0 0
-locating-none s out w h = record { whole = w; left = omega arith; rest = refl }
+module _ (s out : List ℕ) (at i : ℕ) (was : Locating s out at i) (h : i < length out) where
+  -- where numbers are left to write, so are packets
+  here : at < length s
+  here = go (ltb at (length s)) refl
+    where
+      go : (b : Bool) → ltb at (length s) ≡ b → at < length s
+      go true e = ltb-true at (length s) e
+      go false e =
+          let n : length (packets_shown (drop at s)) ≡ 0 = ap length (passed-all s at (ltb-false at (length s) e)) in
+          let k = was.left in
+          absurd (omega arith)
 
-pub locating-all : (s out : List ℕ) (at i : ℕ) → Locating s out at i → length s ≤ at → out ≡ locations (packets_shown s)
-locating-all s out at i was h =
-    let n = passed-all s at h in
-    let m : length (packets_shown (drop at s)) ≡ 0 = ap length n in
-    let k = was.left in
-    all-written out (locations (packets_shown (drop at s))) (locations (packets_shown s)) i (omega arith) (ap locations n) was.rest
+  pub locating-inside : at + (get_or s (at + 5) 0 + 7) ≤ length s
+  locating-inside = (pass s at (get_or s (at + 5) 0) was.whole here refl).inside
 
-module _ (s out : List ℕ) (at i : ℕ) (was : Locating s out at i) (h : at < length s) where
-  pub locating-room : i + 2 ≤ length out
-  locating-room =
-      let l : length (packets_shown (drop at s)) ≡ suc (length (packets_shown (drop (at + (get_or s (at + 5) 0 + 7)) s))) =
-      ap length (pass s at (get_or s (at + 5) 0) was.whole h refl).front in
-      let k = was.left in
-      omega arith
-
-  pub locating-more : (dc line flags : ℕ) → dc ≡ get_or s (at + 5) 0 → line ≡ line_of (get_or s at 0) (get_or s (at + 1) 0)
-      → flags ≡ flags_of (get_or s (at + 1) 0)
-      → Locating s (set (set out i line) (i + 1) flags) (at + (dc + 7)) (i + 2)
-  locating-more dc line flags e f g =
-      let p = pass s at dc was.whole h e in
-      let m = locating-room in
+  pub locating-more : (dc line flags next : ℕ) → next ≡ i + 2 → dc ≡ get_or s (at + 5) 0
+      → line ≡ line_of (get_or s at 0) (get_or s (at + 1) 0) → flags ≡ flags_of (get_or s (at + 1) 0)
+      → Locating s (set (set out i line) (i + 1) flags) (at + (dc + 7)) next
+  locating-more dc line flags next is e f g =
+      let p = pass s at dc was.whole here e in
       let k = was.left in
       let qs : List Packet = packets_shown (drop (at + (dc + 7)) s) in
       let l : length (packets_shown (drop at s)) ≡ suc (length qs) = ap length p.front in
@@ -97,11 +78,12 @@ module _ (s out : List ℕ) (at i : ℕ) (was : Locating s out at i) (h : at < l
       let b : (packet_of_bytes (drop at s)).flags ≡ flags = rw (get_or-drop at s 1 0) (sym g) in
       let n : locations (packets_shown (drop at s)) ≡ line ∷ flags ∷ locations qs =
       ap locations p.front ∙ ap₂ (λ (x v : ℕ). x ∷ v ∷ locations qs) a b in
-      record {
+      rw is
+      (record {
         whole = p.rest;
         left = simp length-set (omega arith);
         rest = two-more out i line flags (locations qs) (omega arith) ∙ ap (λ (t : List ℕ). take i out ++ t) (sym n) ∙ was.rest;
-      }
+      })
 
 -- ---- the words of packets
 
@@ -150,9 +132,6 @@ pub record Wording (s out : List ℕ) (at : ℕ) : Type 0 where
   pub long : length out ≡ length s
   pub rest : take at out ++ all_words (packets_shown (drop at s)) ≡ all_words (packets_shown s)
 
-pub wording-none : (s out : List ℕ) → Whole s → length out ≡ length s → Wording s out 0
-wording-none s out w l = record { whole = w; long = l; rest = refl }
-
 pub wording-all : (s out : List ℕ) (at : ℕ) → Wording s out at → length s ≤ at → out ≡ all_words (packets_shown s)
 wording-all s out at was h =
     let n = passed-all s at h in
@@ -174,16 +153,6 @@ module _ (s out : List ℕ) (at dc : ℕ) (was : Wording s out at) (h : at < len
 
   enough : end - at ≤ length (drop at s)
   enough = let k = inside in let d = length-drop at s in omega arith
-
-  -- what is lent: a packet's bytes, and as much to write in
-  pub bytes-long : length bytes ≡ dc + 7
-  bytes-long = length-take-le (end - at) (drop at s) enough ∙ (omega arith)
-
-  pub out-long : length (take (end - at) (drop at out)) ≡ dc + 7
-  out-long =
-      let k = inside in
-      let l = was.long in
-      length-take-le (end - at) (drop at out) (let d = length-drop at out in omega arith) ∙ (omega arith)
 
   -- the words that are written there: from the bytes, or where the words of the bytes stand already
   pub words-of-bytes : framed (map word (take (length bytes - 4) (drop 3 bytes))) ≡ words (packet_of_bytes (drop at s))
@@ -310,16 +279,6 @@ looked-up t b r right e h =
     let w : get_or t r 0 ≡ word r = rw right (table_at r h) in
     (w ∙ ap word e, let k = word_small r h in omega arith)
 
-pub six-set : (out : List ℕ) (a b c : ℕ) → 6 ≤ length out
-    → set (set (set (three_of out 0x000 0x3FF 0x3FF) 3 a) 4 b) 5 c ≡ (0x000 ∷ 0x3FF ∷ 0x3FF ∷ a ∷ b ∷ c ∷ []) ++ drop 6 out
-six-set [] a b c h = absurd (omega arith)
-six-set (x ∷ []) a b c h = absurd (omega arith)
-six-set (x ∷ y ∷ []) a b c h = absurd (omega arith)
-six-set (x ∷ y ∷ z ∷ []) a b c h = absurd (omega arith)
-six-set (x ∷ y ∷ z ∷ d ∷ []) a b c h = absurd (omega arith)
-six-set (x ∷ y ∷ z ∷ d ∷ e ∷ []) a b c h = absurd (omega arith)
-six-set (x ∷ y ∷ z ∷ d ∷ e ∷ f ∷ out) a b c h = refl
-
 -- a number more in a sum modulo 512, its low nine bits in the other
 nine-more : (a x y : ℕ) → x % 512 ≡ y % 512 → (a + x) % 512 ≡ (a % 512 + y) % 512
 nine-more a x y e = omega arith
@@ -409,19 +368,9 @@ module _ (sys packets : ℕ) (s out ls : List ℕ) (m : Measured packets s out) 
   all_words_lem : length s ≡ length (all_words (packets_shown s))
   all_words_lem = sym (whole_long s m.whole).same
 
-  pub before-long : length before ≡ length out
-  before-long = sheet-before sys packets (length s) (packets_shown s) out ls m.count all_words_lem m.room hl
-
-  -- what is lent for the words
-  pub words-lent : length (take (length counted - (3 + 2 * packets + 1)) (drop (3 + 2 * packets + 1) counted)) ≡ length s
-  words-lent = sheet-lent sys packets (length s) (packets_shown s) out ls m.count all_words_lem m.room hl
-
   module _ (ws : List ℕ) (hw : ws ≡ all_words (packets_shown s)) where
     abbrev all : List ℕ
     all = take (3 + 2 * packets + 1) counted ++ (ws ++ drop (length counted - (3 + 2 * packets + 1)) (drop (3 + 2 * packets + 1) counted))
-
-    pub sections-long : length all ≡ length out
-    sections-long = sheet-long sys packets (length s) (packets_shown s) out ls m.count all_words_lem m.room hl ws hw
 
     pub sections-written : all ≡ sheet_of sys (packets_shown s)
     sections-written = sheet-filled sys packets (length s) (packets_shown s) out ls m.count all_words_lem m.room hl ws hw
