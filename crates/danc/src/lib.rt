@@ -41,14 +41,14 @@ pub fn line_of(h0: u8, h1: u8) -> Line
     if h0 < 128 {
         return Line(0);
     }
-    Line((h0 % 128) as u16 + (h1 % 16) as u16 * 128)
+    Line(u16::from(h0 % 128) + u16::from(h1 % 16) * 128)
 }
 
 // The flags of header byte 1 (001, figure 6): FI in bit 7, YCF in bit 4. "The flags are carried and not judged."
 pub fn flags_of(h1: u8) -> u16
     ensures { result ≡ flags_of h1 }
 {
-    (h1 / 128 + 2 * (h1 / 16 % 2)) as u16
+    u16::from(h1 / 128 + 2 * (h1 / 16 % 2))
 }
 
 // "16 | LE is 1 and the line is 0 or past the last", then 20, "a line in the frame that isn't allowed" (document 02, A3).
@@ -88,7 +88,7 @@ fn is_cs_right(s: &[u8]) -> bool
     ensures { result ≡ cs_right s.now }
 {
     let end = wide(s[5]) + 6;
-    let ids = s[3] as u32 + s[4] as u32;
+    let ids = u32::from(s[3]) + u32::from(s[4]);
     let sum = sum_onto(ids, &s[5..end]);
     s[end] == sum
 }
@@ -160,8 +160,8 @@ pub fn walk(system: u64, string: &[u8], place: StringByte) -> Step
     }
     let at = place.0 as usize;
     match fault(figures.last_line, &string[at..]) {
-        Ok(size) => answer(0, place.0, size as u64),
         Err(refusal) => answer(refusal.number(), place.0, 0),
+        Ok(size) => answer(0, place.0, size as u64),
     }
 }
 
@@ -227,7 +227,7 @@ fn packets_from(
     run: Validated,
     answer: &mut Result<Validated, Refused>,
 )
-    requires { (length us.now ≡ 9360) × Within end run.end run.packets }
+    requires { Within end run.end run.packets }
     ensures { (y : System) → y.last ≡ last.0 → told_of answer.new ≡ validated y room (take end us.now) run.end run.packets }
 {
     let s = &us[..];
@@ -289,8 +289,6 @@ pub fn validate(
 ) -> Result<Validated, Refused>
     ensures { (y : System) → y.last ≡ last.0 → Within end at k → told_of result ≡ validated y room (take end us.now) at k }
 {
-    // lent whole, which tells the proof its length
-    let whole = &us[..];
     if LONGEST < end || end < at || LIMIT < k {
         return Err(refused(Refusal::Length, k));
     }

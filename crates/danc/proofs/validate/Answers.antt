@@ -19,7 +19,7 @@ unfolding limit
 sound_run-run-requires c = (record { short = omega arith; place = omega arith; packet = omega arith }, c.stop_of.ensures)
 
 pub packets_from-requires : goal.packets_from-requires
-packets_from-requires c = (c.told-us, c.sound_run-run.ensures.within)
+packets_from-requires c = c.sound_run-run.ensures.within
 
 pub returns : goal.returns
 returns c y e w = c.packets_from.ensures y e ∙ c.sound_run-run.ensures.same y (c.lines_of-lines.ensures ∙ ap lines_of (sym e)) _
