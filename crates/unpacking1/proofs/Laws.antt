@@ -123,11 +123,6 @@ module _ (y : System) (s : List Five) (k : ℕ) where
   packs-ended zero e = rw e
   packs-ended (suc left) e = rw e
 
-  -- "after [1,275] packets, not the end"
-  packs-full : packs_end s ≡ false → packets_in (pack_row y) 0 k s ≡ refused 5 k
-  unfolding pack_row
-  packs-full e = rw e
-
   -- a fault
   packs-fault : (left n : ℕ) → packs_end s ≡ false → packs_fault y s ≡ n → (n ≡ 0 → ⊥) → packets_in (pack_row y) (suc left) k s ≡ refused n k
   unfolding pack_row
@@ -155,10 +150,6 @@ front-bytes-length p ps =
     omega arith
 
 -- ---- packets opened one after the other
-
--- what is left falls when a place rises
-fewer : (total r next : ℕ) → r < total → r < next → total - next < total - r
-fewer total r next h k = omega arith
 
 -- the packets before packet k, opened, stand as a string in the first w bytes; what is read from r on is the rest
 pub record Done (y : System) (before us : List ℕ) (total r w k : ℕ) : Type 0 where
@@ -241,14 +232,6 @@ module _ {last : ℕ} {before us : List ℕ} {total r w k : ℕ} (v : Opening la
       let c = v.packs.all in
       let d = v.long in
       length-take-le w us (omega arith)
-
-  -- the packs left are whole, in the bytes as they are now
-  pub packet-within : Within us r total
-  packet-within =
-      let p = v.packs in
-      let a = p.all in
-      let l = v.long in
-      record { reach = p.reach; all = omega arith; whole = p.whole }
 
   -- all packets, from those before packet k and what is read from there on
   whole_is : (y : System) (e : y.last ≡ last) (o : Outcome) → packets_in (pack_row y) (limit - k) k left ≡ o
@@ -424,10 +407,6 @@ module _ {last : ℕ} {before us : List ℕ} {total r w k : ℕ} (v : Opening la
           let l = parts.1 in
           omega arith
 
-      -- fewer bytes are left
-      pub left-falls : total - next < total - r
-      left-falls = let n = next-is in fewer total r next packet-left (omega arith)
-
       -- how many bytes they carry
       bytes-length : length bytes ≡ 3 + 4 * lead later
       bytes-length = ap (λ (s : List Five). length (front_bytes s)) left_is ∙ front-bytes-length (pack_at before r) later
@@ -452,16 +431,6 @@ module _ {last : ℕ} {before us : List ℕ} {total r w k : ℕ} (v : Opening la
       order_is =
           let n = next-is in
           ap (in_order false) (sym (kept-packs us before r v.kept next total (omega arith))) ∙ o.same ∙ order-us
-
-      -- they are whole, and as they were
-      pub next-within : length after ≡ length us → Within after next total
-      next-within l =
-          let p = v.packs in
-          let a = p.all in
-          let b = p.whole in
-          let m = next-is in
-          let c = v.long in
-          record { reach = o.within; all = omega arith; whole = omega arith }
 
       next-kept : packs_at after next total ≡ packs_at before next total
       next-kept =

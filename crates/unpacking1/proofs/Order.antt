@@ -104,10 +104,6 @@ module _ {us : List ℕ} {at total : ℕ} (w : Within us at total) (h : at < tot
 
 -- ---- carriers passed one by one
 
--- none is passed yet
-pub passed_none : {us : List ℕ} {at total : ℕ} → Within us at total → SameOrder us at total at
-passed_none w = record { reach = omega arith; packs = w; same = refl }
-
 -- one more is passed
 pub passed-more : {us : List ℕ} {at total end : ℕ} → SameOrder us at total end → end < total → get_or us end 0 ≡ 0xE2
     → SameOrder us at total (end + 5)

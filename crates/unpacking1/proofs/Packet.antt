@@ -10,7 +10,8 @@ use native.Mathlib.Omega.{arith}
 use native.Mathlib.Numerals.{add-one, add-two, add-three}
 use lib.Dec.{eqb, ltb}
 use lib.ListN.{length, get_or, take, drop, set, length-append}
-use lib.Seq.{drop-cons, length-take-le, take-length, sets, length-sets}
+use lib.Seq.{drop-cons, length-take-le, take-length, sets, length-sets, sets-eq}
+use borrow.Rule.Slice.PartMut.{put_mid, Post-is}
 use borrow.Author.Tests.{ltb-true, ltb-false, eq-eqb, eqb-true, eqb-false, ne_eqb}
 use Rattle.rules.specs.Base.{all_is}
 use Rattle.rules.specs.Packing1.{Five, carriers_for}
@@ -23,7 +24,7 @@ use Rattle.unpacking1.specs.Open.{packs_at, Within, SameOrder, fits, EndsAt, all
 use Rattle.unpacking1.specs.Open.{order_first, MovedTo, NotMoved}
 use Rattle.unpacking1.proofs.Packs.{kept-later, kept_at, kept-packs, window-part, pack_at, packs-cons, packs-none, packs-drop, packs-take}
 use Rattle.unpacking1.proofs.Packs.{packs-length, first-pack, behind-first}
-use Rattle.unpacking1.proofs.Order.{passed_none, passed-more, order-alone, order-packet}
+use Rattle.unpacking1.proofs.Order.{passed-more, order-alone, order-packet}
 
 -- ---- carriers in front
 
@@ -164,6 +165,14 @@ module _ {us : List ℕ} {at total : ℕ} (w : Within us at total) where
 
 -- ---- carriers opened
 
+-- a part of the bytes stored is what its bytes stored one by one are
+stored : (us part : List ℕ) (at end : ℕ) → end ≡ at + length part → end ≤ length us → put_mid at (end - at) us part ≡ sets us at part
+stored us part at end e h =
+    ap (λ (s : List ℕ). take at us ++ (part ++ s)) (Post-is at end us (omega arith))
+    ∙ sym (append_assoc (take at us) part (drop end us))
+    ∙ ap (λ (i : ℕ). (take at us ++ part) ++ drop i us) e
+    ∙ sym (sets-eq part us at (omega arith))
+
 -- what holds when the carriers before f were opened, to before o
 pub record Carrying (before us : List ℕ) (from stop to f o : ℕ) : Type 0 where
   pub start : to ≤ o
@@ -180,22 +189,6 @@ pub record Carrying (before us : List ℕ) (from stop to f o : ℕ) : Type 0 whe
 -- the bytes that the pack at a place carries
 abbrev four_at : List ℕ → ℕ → List ℕ
 four_at us f = get_or us (f + 1) 0 ∷ get_or us (f + 2) 0 ∷ get_or us (f + 3) 0 ∷ get_or us (f + 4) 0 ∷ []
-
--- no carrier is opened yet
-pub carry-none : {us : List ℕ} {from stop to : ℕ} → Within us from stop → to ≤ from → Carrying us us from stop to from to
-carry-none w h =
-    record {
-      start = omega arith;
-      low = h;
-      packs = w;
-      long = refl;
-      kept = refl;
-      laid = refl;
-      all = refl;
-      first = λ l. absurd (omega arith);
-      same = λ total v l. passed_none v;
-      reach = omega arith;
-    }
 
 -- a turn of the loop, and its end
 module _ {before us : List ℕ} {from stop to f o : ℕ} (v : Carrying before us from stop to f o) where
@@ -258,12 +251,16 @@ module _ {before us : List ℕ} {from stop to f o : ℕ} (v : Carrying before us
           reach = let c = v.reach in omega arith;
         }
 
-    -- one carrier more, its bytes stored one by one
-    pub carry-more : get_or us f 0 ≡ 0xE2
-        → Carrying before
-        (set (set (set (set us o (get_or us (f + 1) 0)) (o + 1) (get_or us (f + 2) 0)) (o + 2) (get_or us (f + 3) 0)) (o + 3) (get_or us (f + 4) 0))
-        from stop to (f + 5) (o + 4)
-    carry-more e = rw (add-one o, add-two o, add-three o) (four-more e)
+    -- one carrier more, its four bytes stored as one part
+    pub carry-more : {four : List ℕ} → four ≡ four_at us f → get_or us f 0 ≡ 0xE2
+        → Carrying before (put_mid o (o + 4 - o) us four) from stop to (f + 5) (o + 4)
+    carry-more {four} q e =
+        let l = v.low in
+        let i = (behind-first v.packs goes).all in
+        let r = (behind-first v.packs goes).reach in
+        let s : put_mid o (o + 4 - o) us four ≡ next =
+        ap (put_mid o (o + 4 - o) us) q ∙ stored us (four_at us f) o (o + 4) refl (omega arith) in
+        subst (λ (x : List ℕ). Carrying before x from stop to (f + 5) (o + 4)) (sym s) (four-more e)
 
     -- a pack that is no carrier
     pub carry-wrong : (get_or us f 0 ≡ 0xE2 → ⊥) → CarriersOpened before us from stop to f
@@ -319,25 +316,25 @@ module _ {before us : List ℕ} {from stop to f o : ℕ} (v : Carrying before us
 abbrev head_at : List ℕ → ℕ → List ℕ
 head_at us at = get_or us (at + 2) 0 ∷ get_or us (at + 3) 0 ∷ get_or us (at + 4) 0 ∷ []
 
--- the bytes after these were stored, one by one
-abbrev pub headed : List ℕ → ℕ → ℕ → List ℕ
-headed us at to = set (set (set us to (get_or us (at + 2) 0)) (to + 1) (get_or us (at + 3) 0)) (to + 2) (get_or us (at + 4) 0)
+-- the bytes after a header was stored
+abbrev pub headed : List ℕ → List ℕ → ℕ → List ℕ
+headed us header to = put_mid to (to + 3 - to) us header
 
-module _ (us : List ℕ) (at to : ℕ) where
-  -- the stores as one
-  headed-is : headed us at to ≡ sets us to (head_at us at)
-  headed-is = rw (add-one to, add-two to)
+module _ (us : List ℕ) {header : List ℕ} (at to : ℕ) (q : header ≡ head_at us at) (room : to + 3 ≤ length us) where
+  -- that of the packet, byte by byte
+  headed-is : headed us header to ≡ sets us to (head_at us at)
+  headed-is = ap (put_mid to (to + 3 - to) us) q ∙ stored us (head_at us at) to (to + 3) refl room
 
   -- as many bytes as before
-  pub headed-length : length (headed us at to) ≡ length us
+  headed-length : length (headed us header to) ≡ length us
   headed-length = ap length headed-is ∙ length-sets us to (head_at us at)
 
   -- the header bytes stand at their place
-  headed-front : to + 3 ≤ length us → take (to + 3) (headed us at to) ≡ take to us ++ head_at us at
-  headed-front h = ap (take (to + 3)) headed-is ∙ sets-front us to (head_at us at) h
+  headed-front : take (to + 3) (headed us header to) ≡ take to us ++ head_at us at
+  headed-front = ap (take (to + 3)) headed-is ∙ sets-front us to (head_at us at) room
 
   -- and nothing behind them has changed
-  headed-behind : (n : ℕ) → to + 3 ≤ n → drop n (headed us at to) ≡ drop n us
+  headed-behind : (n : ℕ) → to + 3 ≤ n → drop n (headed us header to) ≡ drop n us
   headed-behind n h = ap (drop n) headed-is ∙ sets_behind us to (head_at us at) n h
 
 -- 14 of a packet that has its carriers
@@ -445,36 +442,31 @@ module _ {us : List ℕ} {at total stop : ℕ} (w : Within us at total) (e : End
     fits-front = ap fits starter-is ∙ fits-is (pack_at us at) ps front dc (e.starts) (ap front_bytes (sym starter-is) ∙ front_bytes_lem) dc-is many
 
   -- the header bytes were stored
-  module _ {to : ℕ} (low : to ≤ at) where
-    -- the packs to be carriers are whole, with the header bytes stored
-    pub carriers-within : Within (headed us at to) (at + 5) stop
-    carriers-within =
-        let l = headed-length us at to in
-        let c = within-cs in
-        let r = c.reach in
-        let a = c.all in
-        record { reach = r; all = omega arith; whole = c.whole }
+  module _ {to : ℕ} (low : to ≤ at) {header : List ℕ} (stores : header ≡ head_at us at) where
+    -- where there is room for them
+    room : to + 3 ≤ length us
+    room = let p = stop_is in let i = stop-within in omega arith
 
     -- and are as they were
-    cs-kept : packs_at (headed us at to) (at + 5) stop ≡ cs
-    cs-kept = kept-packs (headed us at to) us (at + 5) (headed-behind us at to (at + 5) (omega arith)) (at + 5) stop (omega arith)
+    cs-kept : packs_at (headed us header to) (at + 5) stop ≡ cs
+    cs-kept = kept-packs (headed us header to) us (at + 5) (headed-behind us at to stores room (at + 5) (omega arith)) (at + 5) stop (omega arith)
 
     -- all packs behind the starter are whole, with the header bytes stored
-    within-headed : Within (headed us at to) (at + 5) total
+    within-headed : Within (headed us header to) (at + 5) total
     within-headed =
-        let l = headed-length us at to in
+        let l = headed-length us at to stores room in
         let c = within-ps in
         let a = c.all in
         record { reach = c.reach; all = omega arith; whole = c.whole }
 
     -- and are as they were
-    head-behind : drop (at + 5) (headed us at to) ≡ drop (at + 5) us
-    head-behind = headed-behind us at to (at + 5) (omega arith)
+    head-behind : drop (at + 5) (headed us header to) ≡ drop (at + 5) us
+    head-behind = headed-behind us at to stores room (at + 5) (omega arith)
 
     -- and the carriers were opened
-    module _ {after : List ℕ} {r : ℕ} (v : CarriersOpened (headed us at to) after (at + 5) stop (to + 3) r) where
+    module _ {after : List ℕ} {r : ℕ} (v : CarriersOpened (headed us header to) after (at + 5) stop (to + 3) r) where
       -- the order of the packs behind the starter is that of those from r on
-      same-headed : SameOrder (headed us at to) (at + 5) total r
+      same-headed : SameOrder (headed us header to) (at + 5) total r
       same-headed = v.same total within-headed e.within
 
       same-us : SameOrder us (at + 5) total r
@@ -482,8 +474,8 @@ module _ {us : List ℕ} {at total stop : ℕ} (w : Within us at total) (e : End
           let h = same-headed in
           let w = h.packs in
           let a = w.all in
-          let l = headed-length us at to in
-          let k = kept-packs (headed us at to) us (at + 5) head-behind in
+          let l = headed-length us at to stores room in
+          let k = kept-packs (headed us header to) us (at + 5) head-behind in
           record {
             reach = h.reach;
             packs = record { reach = w.reach; all = omega arith; whole = w.whole };
@@ -495,15 +487,8 @@ module _ {us : List ℕ} {at total stop : ℕ} (w : Within us at total) (e : End
       -- these are as they were
       rest-there : packs_at after r total ≡ packs_at us r total
       rest-there =
-          kept-packs after (headed us at to) r v.kept r total (omega arith)
-          ∙ kept-packs (headed us at to) us (at + 5) head-behind r total same-us.reach
-
-      -- and whole
-      pub rest-within : length after ≡ length us → Within after r total
-      rest-within l =
-          let w = same-us.packs in
-          let a = w.all in
-          record { reach = w.reach; all = omega arith; whole = w.whole }
+          kept-packs after (headed us header to) r v.kept r total (omega arith)
+          ∙ kept-packs (headed us header to) us (at + 5) head-behind r total same-us.reach
 
       -- a pack stands behind the starter
       second-there : at + 5 < total
@@ -512,7 +497,7 @@ module _ {us : List ℕ} {at total stop : ℕ} (w : Within us at total) (e : End
       -- behind a carrier their order is that of all packs from the packet on
       rest-order : at + 5 < r → in_order false (packs_at after r total) ≡ in_order false (packs_at us at total)
       rest-order h =
-          let c : get_or us (at + 5) 0 ≡ 0xE2 = sym (kept_at (headed us at to) us (at + 5) head-behind) ∙ v.first h in
+          let c : get_or us (at + 5) 0 ≡ 0xE2 = sym (kept_at (headed us header to) us (at + 5) head-behind) ∙ v.first h in
           ap (in_order false) rest-there ∙ order-packet w second-there (e.starts) c same-us
 
       -- one is no carrier: what `carriers_refusal` says
@@ -532,7 +517,7 @@ module _ {us : List ℕ} {at total stop : ℕ} (w : Within us at total) (e : End
               let k : r ≡ at + 5 = eqb-true r (at + 5) b in
               let no : get_or us (at + 5) 0 ≡ 0xE2 → ⊥ =
               λ c. v.here less
-              (ap (λ (i : ℕ). get_or (headed us at to) i 0) k ∙ kept_at (headed us at to) us (at + 5) head-behind ∙ c) in
+              (ap (λ (i : ℕ). get_or (headed us header to) i 0) k ∙ kept_at (headed us header to) us (at + 5) head-behind ∙ c) in
               sym (ap order_first (order-alone w second-there e.starts no))
           go false b =
               let k = eqb-false r (at + 5) b in
@@ -544,10 +529,6 @@ module _ {us : List ℕ} {at total stop : ℕ} (w : Within us at total) (e : End
         -- so one at least was passed
         passed : at + 5 < r
         passed = let p = stop_is in omega arith
-
-        -- and from `stop` on whole packs stand
-        pub stop-rest : length after ≡ length us → Within after stop total
-        stop-rest l = subst (λ (i : ℕ). Within after i total) y (rest-within l)
 
         -- all are carriers
         all_are : all_carriers cs ≡ true
@@ -561,14 +542,14 @@ module _ {us : List ℕ} {at total stop : ℕ} (w : Within us at total) (e : End
             let k = carried-length cs in
             let m = v.moved y in
             let j = ap (λ (s : List Five). length (carried s)) cs-kept in
-            let q : to + length front ≡ to + 3 + length (carried (packs_at (headed us at to) (at + 5) stop)) = omega arith in
+            let q : to + length front ≡ to + 3 + length (carried (packs_at (headed us header to) (at + 5) stop)) = omega arith in
             record {
               laid =
                   ap (λ (n : ℕ). take n after) q ∙ m.laid
-                  ∙ ap (λ (s : List Five). take (to + 3) (headed us at to) ++ carried s) cs-kept
-                  ∙ ap (λ (s : List ℕ). s ++ carried cs) (headed-front us at to (omega arith))
+                  ∙ ap (λ (s : List Five). take (to + 3) (headed us header to) ++ carried s) cs-kept
+                  ∙ ap (λ (s : List ℕ). s ++ carried cs) (headed-front us at to stores room)
                   ∙ append_assoc (take to us) (head_at us at) (carried cs);
-              kept = m.kept ∙ headed-behind us at to stop (omega arith);
+              kept = m.kept ∙ headed-behind us at to stores room stop (omega arith);
             }
 
         -- d is DC as it was read

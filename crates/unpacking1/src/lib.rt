@@ -29,7 +29,7 @@ use rules::{Refusal, Refused};
 // Where the carriers end that stand from `at` on, if any do. Behind a carrier a carrier, a starter and fill may stand: a run of them
 // needs no more than this loop.
 fn carriers_end(us: &[u8; 9360], at: usize, total: usize) -> usize
-    requires { Within us.now at total × (length us.now ≡ 9360) }
+    requires { Within us.now at total }
     ensures { SameOrder us.now at total result }
 {
     let mut end = at;
@@ -42,7 +42,7 @@ fn carriers_end(us: &[u8; 9360], at: usize, total: usize) -> usize
 // "every pack is a starter, a carrier or five FFh", and "nothing but fill follows fill"
 #[cycle(carrier_starter)]
 fn starter(us: &[u8; 9360], at: usize, total: usize) -> bool
-    requires { Within us.now at total × (length us.now ≡ 9360) }
+    requires { Within us.now at total }
     ensures { result ≡ in_order false (packs_at us.now at total) }
 {
     if at == total {
@@ -58,7 +58,7 @@ fn starter(us: &[u8; 9360], at: usize, total: usize) -> bool
 // "each starter has a carrier after it"
 #[cycle(carrier_starter)]
 fn carrier(us: &[u8; 9360], at: usize, total: usize) -> bool
-    requires { Within us.now at total × (length us.now ≡ 9360) }
+    requires { Within us.now at total }
     ensures { result ≡ in_order true (packs_at us.now at total) }
 {
     if at == total || us[at] != 0xE2 {
@@ -89,21 +89,15 @@ fn open_carriers(us: &mut [u8], from: usize, stop: usize, to: usize) -> usize
     requires { Within us.old from stop × (to ≤ from) }
     ensures { CarriersOpened us.old us.new from stop to result }
 {
-    let mut f = from;
-    let mut o = to;
-    while f < stop && us[f] == 0xE2 {
-        let a = us[f + 1];
-        let b = us[f + 2];
-        let c = us[f + 3];
-        let d = us[f + 4];
-        us[o] = a;
-        us[o + 1] = b;
-        us[o + 2] = c;
-        us[o + 3] = d;
-        f += 5;
-        o += 4;
+    let mut read = from;
+    let mut written = to;
+    while read < stop && us[read] == 0xE2 {
+        let carried = [us[read + 1], us[read + 2], us[read + 3], us[read + 4]];
+        us[written..written + 4].copy_from_slice(&carried);
+        read += 5;
+        written += 4;
     }
-    f
+    read
 }
 
 // "the unused bytes are not FFh": they are three at most, and looked at one by one, without a loop's start.
@@ -119,7 +113,7 @@ fn unused_are_fill(us: &[u8], end: usize, full: usize) -> bool
 
 // 13 before 14: what a packet that does not pass 14 is refused for, by whether the packs from a place on are in order.
 fn order_refusal(us: &[u8; 9360], at: usize, total: usize) -> Refusal
-    requires { Within us.now at total × (length us.now ≡ 9360) }
+    requires { Within us.now at total }
     ensures { result ≡ order_first (in_order false (packs_at us.now at total)) }
 {
     if starter(us, at, total) {
@@ -130,7 +124,7 @@ fn order_refusal(us: &[u8; 9360], at: usize, total: usize) -> Refusal
 
 // The same behind the starter before `first`, whose carriers end at `at`, where they should not: there has to be one.
 fn carriers_refusal(us: &[u8; 9360], first: usize, at: usize, total: usize) -> Refusal
-    requires { Within us.now at total × (length us.now ≡ 9360) }
+    requires { Within us.now at total }
     ensures { result ≡ cond (eqb at first) Refusal.Packs (order_first (in_order false (packs_at us.now at total))) }
 {
     if at == first {
@@ -143,7 +137,7 @@ fn carriers_refusal(us: &[u8; 9360], first: usize, at: usize, total: usize) -> R
 // `at` on are not in order. So the packs of a packet are looked at once, and only where one does not pass 14 the two readers read on from there.
 // The unused bytes stand from `end`, the packet's, to `full`, where the bytes of its carriers end, four in each.
 fn open_packet(us: &mut [u8; 9360], at: usize, total: usize, to: usize) -> Result<usize, Refusal>
-    requires { Within us.old at total × (length us.old ≡ 9360) × (at < total) × (to ≤ at) }
+    requires { Within us.old at total × (at < total) × (to ≤ at) }
     ensures { PacketOpened us.old us.new at total to result }
 {
     let Some(stop) = packs_end(us, at, total) else {
@@ -152,12 +146,8 @@ fn open_packet(us: &mut [u8; 9360], at: usize, total: usize, to: usize) -> Resul
     let dc = wide(us[at + 8]);
     let end = to + dc + 7;
     let full = to + (dc + 3) / 4 * 4 + 7;
-    let h0 = us[at + 2];
-    let h1 = us[at + 3];
-    let h2 = us[at + 4];
-    us[to] = h0;
-    us[to + 1] = h1;
-    us[to + 2] = h2;
+    let header = [us[at + 2], us[at + 3], us[at + 4]];
+    us[to..to + 3].copy_from_slice(&header);
     let reached = open_carriers(us, at + 5, stop, to + 3);
     if reached != stop {
         return Err(carriers_refusal(us, at + 5, reached, total));
@@ -170,7 +160,7 @@ fn open_packet(us: &mut [u8; 9360], at: usize, total: usize, to: usize) -> Resul
 
 // Whether a packet starts at a place.
 fn starts(us: &[u8; 9360], at: usize, total: usize) -> bool
-    requires { (total ≤ length us.now) × (length us.now ≡ 9360) }
+    requires { total ≤ length us.now }
     ensures { result ≡ (ltb at total && eqb (get_or us.now at 0) 0xE1) }
 {
     at < total && us[at] == 0xE1
@@ -199,7 +189,7 @@ fn placed(refusal: Refusal, k: usize) -> Refused
 
 // 13 before a packet's own fault: that fault, unless the packs from a place on are not in order.
 fn refused(us: &[u8; 9360], at: usize, total: usize, fault: Refused) -> Refused
-    requires { Within us.now at total × (length us.now ≡ 9360) }
+    requires { Within us.now at total }
     ensures { result ≡ order_before (in_order false (packs_at us.now at total)) fault }
 {
     if starter(us, at, total) {
@@ -210,7 +200,7 @@ fn refused(us: &[u8; 9360], at: usize, total: usize, fault: Refused) -> Refused
 
 // Where no packet starts: fill to the end, behind the packets that were opened; else 13, or 14 of carriers without a starter.
 fn ended(us: &[u8; 9360], at: usize, total: usize, opened: Validated) -> Result<Validated, Refused>
-    requires { Within us.now at total × (length us.now ≡ 9360) }
+    requires { Within us.now at total }
     ensures { result ≡ end_answer (packs_at us.now at total) opened }
 {
     if !starter(us, at, total) {
@@ -226,31 +216,28 @@ fn ended(us: &[u8; 9360], at: usize, total: usize, opened: Validated) -> Result<
 // 936 at most, and 5 is never given. Whether the packs are in order is seen on the way: "After a starter only carriers stand, until the packet's
 // last byte; then a starter or fill follows".
 fn open_packets(last: Line, us: &mut [u8; 9360], total: usize) -> Result<Validated, Refused>
-    requires { Within us.old 0 total × (length us.old ≡ 9360) }
+    requires { Within us.old 0 total }
     ensures { (y : System) → y.last ≡ last.0 → Opens y (packets_of_packs y (packs_at us.old 0 total)) result us.new }
 {
     let lines = frame::lines_of(last);
     let mut read = 0;
     let mut written = 0;
-    let mut k = 0;
+    let mut packets = 0;
     while starts(us, read, total) {
         let next = match open_packet(us, read, total, written) {
             Ok(next) => next,
-            Err(refusal) => return Err(placed(refusal, k)),
+            Err(refusal) => return Err(placed(refusal, packets)),
         };
         let end = written + wide(us[written + 5]) + 7;
-        if let Err(fault) = danc::judged(&lines, last, us, end, written, k) {
+        if let Err(fault) = danc::judged(&lines, last, us, end, written, packets) {
             return Err(refused(us, next, total, fault));
         }
         read = next;
         written = end;
-        k += 1;
+        packets += 1;
     }
-    let opened = Validated {
-        packets: k,
-        end: written,
-    };
-    ended(us, read, total, opened)
+    let end = written;
+    ended(us, read, total, Validated { packets, end })
 }
 
 // Whether these are packs of 5, and all of them there.

@@ -11,12 +11,12 @@ use Rattle.unpacking1.proofs.ended.Goals.{else-at-total-via-then-at-total+else-u
 pub returns-then-us-at : goal.returns-then-us-at
 returns-then-us-at c =
     let o = sym c.starter.ensures ∙ c.if-not-starter.false in
-    rw (o, ne_eqb _ 0 (lead-some c.requires.0 c.if-at-total.true c.if-us-at.true)) (ap (λ (e : Refused). Err e) c.placed.ensures)
+    rw (o, ne_eqb _ 0 (lead-some c.requires c.if-at-total.true c.if-us-at.true)) (ap (λ (e : Refused). Err e) c.placed.ensures)
 
 pub returns : goal.returns
 returns c =
     let o = sym c.starter.ensures ∙ c.if-not-starter.false in
     elim c.else-at-total.branch [
-      else-at-total-via-then-at-total+else-us-at w ↦ rw (o, lead-none c.requires.0 w.if-at-total.true w.if-us-at.false)
+      else-at-total-via-then-at-total+else-us-at w ↦ rw (o, lead-none c.requires w.if-at-total.true w.if-us-at.false)
     | else-at-total-via-else-at-total w ↦ rw (o, packs-none c.args.us.now c.args.at c.args.total w.if-at-total.false)
     ]

@@ -2,13 +2,13 @@ use Rattle.unpacking1.proofs.Packet.{carry-more, carry-wrong, carry-done}
 use Rattle.unpacking1.proofs.open_carriers.Goals as goal
 
 -- one carrier more
-pub loop-f-preserved : goal.loop-f-preserved
-loop-f-preserved c = carry-more c.loop-f.invariant c.loop-f-test.true c.if-us-f.true
+pub loop-read-preserved : goal.loop-read-preserved
+loop-read-preserved c = carry-more c.loop-read.invariant c.loop-read-test.true c.copy_from_slice.ensures.after c.if-us-read.true
 
 -- no carrier
-pub returns-else-us-f : goal.returns-else-us-f
-returns-else-us-f c = carry-wrong c.loop-f.invariant c.loop-f-test.true c.if-us-f.false
+pub returns-else-us-read : goal.returns-else-us-read
+returns-else-us-read c = carry-wrong c.loop-read.invariant c.loop-read-test.true c.if-us-read.false
 
 -- all of them
-pub returns-after-loop-f : goal.returns-after-loop-f
-returns-after-loop-f c = carry-done c.loop-f.invariant c.loop-f-test.false
+pub returns-after-loop-read : goal.returns-after-loop-read
+returns-after-loop-read c = carry-done c.loop-read.invariant c.loop-read-test.false

@@ -1,11 +1,11 @@
--- What stands before o, and behind it what the carriers from f on carry, are the bytes that stood before `to` and what all of them carry.
+-- What was written, and behind it what the carriers that are left carry, are the bytes that stood before `to` and what all of them carry.
 use Rattle.std.proofs.Common.{◌-◌}
 use Rattle.unpacking1.proofs.Packet.{Carrying}
 use Rattle.unpacking1.proofs.open_carriers.Given as goal
 
-abbrev pub invariant-loop-f : goal.invariant-loop-f
-invariant-loop-f l = Carrying l.fn.us l.us l.from l.stop l.to l.f l.o
+abbrev pub invariant-loop-read : goal.invariant-loop-read
+invariant-loop-read l = Carrying l.fn.us l.us l.from l.stop l.to l.read l.written
 
 -- the bytes left
-abbrev pub decreases-loop-f : goal.decreases-loop-f
-decreases-loop-f l = l.stop - l.f
+abbrev pub decreases-loop-read : goal.decreases-loop-read
+decreases-loop-read l = l.stop - l.read

@@ -8,7 +8,7 @@ pub returns-then-not-whole : goal.returns-then-not-whole
 returns-then-not-whole c = λ y e. refused-opens (refused-whole _ _ c.whole.ensures c.if-not-whole.true y) refl
 
 pub open_packets-requires : goal.open_packets-requires
-open_packets-requires c = (whole-packs _ _ c.whole.ensures c.if-not-whole.false, c.told-us)
+open_packets-requires c = whole-packs _ _ c.whole.ensures c.if-not-whole.false
 
 -- packet by packet
 pub returns : goal.returns

@@ -15,7 +15,7 @@ use Rattle.unpacking1.proofs.Laws.{
 use Rattle.unpacking1.proofs.open_packets.Goals as goal
 
 pub loop-last-init : goal.loop-last-init
-loop-last-init c = let p = c.requires in opening-none _ _ _ p.0 p.1
+loop-last-init c = opening-none _ _ _ c.requires c.told-us
 
 -- 13 or 14
 pub returns-in-Err : goal.returns-in-Err

@@ -4,7 +4,7 @@ use Rattle.unpacking1.proofs.Laws.{Opening}
 use Rattle.unpacking1.proofs.open_packets.Given as goal
 
 abbrev pub invariant-loop-last : goal.invariant-loop-last
-invariant-loop-last l = Opening l.last.0 l.fn.us l.us l.total l.read l.written l.k
+invariant-loop-last l = Opening l.last.0 l.fn.us l.us l.total l.read l.written l.packets
 
 -- what is left
 abbrev pub decreases-loop-last : goal.decreases-loop-last
