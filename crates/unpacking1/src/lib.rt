@@ -1,5 +1,7 @@
 // Packing 1 read: packs of 5 opened to a string, in place (001, 4.1.1, figures 4 and 7; document 01, "Numbers given back", 13 to 16). Where the
 // user bytes lie in an area is no concern of theirs. Quotations are from document 01.
+// The bytes, a place and where the packs end stay three parameters: a packet is opened in the same bytes, so that a struct of the three would be
+// made anew for each call.
 #![tactic(auto)]
 
 ghost use Rattle.std.specs.Prelude.{◌≡◌, true, false, cond, ◌&&◌, ◌+◌, ◌-◌, ◌%◌, ◌≤◌, ◌<◌, eqb, ltb, leb, length, get_or, take, drop};
