@@ -36,7 +36,7 @@ use Rattle.danc.specs.Validated.{judged_as}
 use Rattle.unpacking1.specs.Open.{packs_at, Within, order_first, fits, NotMoved, MovedTo, Opens}
 use Rattle.unpacking1.specs.Open.{packets_from, packets_of_packs, wrong_order, wrong_length, placed, order_before, end_answer, packets_of_fives}
 use Rattle.unpacking1.proofs.Packs.{kept-later, kept_at, kept-packs, window-front, window-at, window-part}
-use Rattle.unpacking1.proofs.Packs.{pack_at, packs-none, packs-drop, packs-length, first-pack}
+use Rattle.unpacking1.proofs.Packs.{pack_at, packs-none, packs-drop, first-pack}
 use Rattle.unpacking1.proofs.Order.{goes-on, order-ends}
 use Rattle.unpacking1.proofs.Packet.{lead-none, lead-some, carried-length}
 

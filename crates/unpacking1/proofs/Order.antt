@@ -2,18 +2,17 @@
 --
 -- In order: one pack more in front; what each reader gives back; carriers passed one by one; a packet passed.
 -- Assumes nothing.
-use Prim.Native.Nat.{ℕ, suc, ◌+◌, ◌-◌, ◌*◌, ◌%◌, ◌≤◌, ◌<◌}
-use mathlib.Core.Path.{◌≡◌, refl, sym, ap, ◌∙◌}
-use mathlib.Core.Bool.{Bool, true, false, cond, ◌||◌}
-use mathlib.Core.List.{List, [], ◌∷◌}
+use Prim.Native.Nat.{ℕ, ◌+◌, ◌-◌, ◌≤◌, ◌<◌}
+use mathlib.Core.Path.{◌≡◌, sym, ap, ◌∙◌}
+use mathlib.Core.Bool.{true, false}
+use mathlib.Core.List.{List, ◌∷◌}
 use native.Mathlib.Omega.{arith}
 use lib.Dec.{eqb}
-use lib.ListN.{length, get_or, take, drop}
-use borrow.Author.Tests.{eqb-true, ne_eqb}
+use lib.ListN.{get_or, take, drop}
+use borrow.Author.Tests.{ne_eqb}
 use Rattle.rules.specs.Base.{all_is}
 use Rattle.rules.specs.Packing1.{Five, flat}
-use Rattle.rules.specs.Reading.{lead, packs_end, in_order}
-use Rattle.rules.proofs.Basics.{never, both}
+use Rattle.rules.specs.Reading.{packs_end, in_order}
 use Rattle.unpacking1.specs.Open.{packs_at, Within, SameOrder}
 use Rattle.unpacking1.proofs.Packs.{pack_at, packs-none, packs-flat, first-pack, behind-first}
 

@@ -2,7 +2,7 @@
 --
 -- In order: packs in a run of bytes; their order (13); one packet (14); all of them.
 -- Assumes nothing.
-use Rattle.std.specs.Prelude.{ℕ, suc, ◌+◌, ◌-◌, ◌*◌, ◌/◌, ◌%◌, ◌≤◌, ◌<◌, ◌≡◌, Bool, true, false, cond, ◌&&◌, ◌||◌}
+use Rattle.std.specs.Prelude.{ℕ, ◌+◌, ◌-◌, ◌*◌, ◌/◌, ◌%◌, ◌≤◌, ◌<◌, ◌≡◌, Bool, true, false, cond, ◌&&◌}
 use Rattle.std.specs.Prelude.{List, [], ◌∷◌, ◌++◌, eqb, leb, length, get_or, take, drop, Option, None, Some, Result, Ok, Err}
 use Rattle.rules.specs.Base.{All}
 use Rattle.rules.specs.declared.Refusal.{Refusal}
@@ -14,7 +14,7 @@ use Rattle.rules.specs.Packet.{Packet}
 use Rattle.rules.specs.Danc.{Item, Good, packets_of, string, string_byte_count}
 use Rattle.rules.specs.Sheet.{limit}
 use Rattle.rules.specs.Packing1.{Five, fives}
-use Rattle.rules.specs.Numbers.{Outcome, listed, refused, unless, packets_in}
+use Rattle.rules.specs.Numbers.{Outcome, listed, unless, packets_in}
 use Rattle.rules.specs.Reading.{lead, carried, front_bytes, carriers_fit, pack_row, in_order}
 use Rattle.danc.specs.declared.Validated.{Validated}
 use Rattle.danc.specs.Answer.{answer_of}

@@ -17,6 +17,6 @@ pub returns : goal.returns
 returns c =
     let o = sym c.starter.ensures ∙ c.if-not-starter.false in
     elim c.else-at-total.branch [
-      else-at-total-via-then-at-total+else-us-at w ↦ rw (o, lead-none c.requires w.if-at-total.true w.if-us-at.false)
-    | else-at-total-via-else-at-total w ↦ rw (o, packs-none c.args.us.now c.args.at c.args.total w.if-at-total.false)
+      | else-at-total-via-then-at-total+else-us-at w ↦ rw (o, lead-none c.requires w.if-at-total.true w.if-us-at.false)
+      | else-at-total-via-else-at-total w ↦ rw (o, packs-none c.args.us.now c.args.at c.args.total w.if-at-total.false)
     ]

@@ -1,5 +1,5 @@
 -- Bytes that are not whole packs (13); whole packs, which `open_packets` opens.
-use Rattle.std.proofs.Common.{refl, sym, ◌∙◌}
+use Rattle.std.proofs.Common.{refl}
 use Rattle.unpacking1.proofs.Laws.{refused-opens, refused-whole, whole-packs, opens-all}
 use Rattle.unpacking1.proofs.open_fives.Goals as goal
 

@@ -30,7 +30,7 @@ returns-then-total-stop c =
           elim w.if-stop-total.branch [
             | then-stop-total v ↦
                 too_many c.requires.0 d c.if-total-at.false w.if-total-stop.false v.if-stop-total.true
-                  (eqb-true _ 226 (sym v.value-is ∙ w.if-us-stop.true))
+                (eqb-true _ 226 (sym v.value-is ∙ w.if-us-stop.true))
             | else-stop-total v ↦ let k = ltb-true _ _ (sym v.value-is ∙ w.if-us-stop.true) in absurd (omega arith)
           ]
     ]
