@@ -6,7 +6,8 @@ use Rattle.unpacking1.proofs.open_packet.Goals as goal
 pub returns-then-reached-stop : goal.returns-then-reached-stop
 returns-then-reached-stop c =
     let p = c.requires in
-    opened-shut p.0 c.in-Some.ensures p.2 c.copy_from_slice.ensures.after c.open_carriers-reached.ensures c.if-reached-stop.true c.carriers_refusal.ensures
+    opened-shut p.0 c.in-Some.ensures p.2 c.copy_from_slice.ensures.after c.open_carriers-reached.ensures
+    c.if-reached-stop.true c.carriers_refusal.ensures
 
 pub returns-then-not-unused_are_fill : goal.returns-then-not-unused_are_fill
 returns-then-not-unused_are_fill c =
@@ -17,5 +18,6 @@ returns-then-not-unused_are_fill c =
 pub returns : goal.returns
 returns c =
     let p = c.requires in
-    packet-opened p.0 c.in-Some.ensures p.2 c.copy_from_slice.ensures.after c.open_carriers-reached.ensures c.if-reached-stop.false c.wide-dc.ensures.0
+    packet-opened p.0 c.in-Some.ensures p.2 c.copy_from_slice.ensures.after c.open_carriers-reached.ensures
+    c.if-reached-stop.false c.wide-dc.ensures.0
     (sym c.unused_are_fill.ensures ∙ c.if-not-unused_are_fill.false)
