@@ -8,7 +8,7 @@ use mathlib.Core.Bool.{Bool, true, false, cond, not, ◌||◌}
 use mathlib.Core.List.{List, [], ◌∷◌, ◌++◌, map}
 use native.Mathlib.Omega.{arith}
 use lib.Dec.{eqb, ltb}
-use lib.ListN.{length, get_or, take, drop, replicate, length-drop, length-take, replicate-append-replicate}
+use lib.ListN.{length, get_or, take, drop, replicate, length-drop, replicate-append-replicate}
 use lib.Seq.{length-take-le, get_or-take, get_or-drop}
 use borrow.Author.Tests.{ltb-false, eqb-true, lt-ltb, le-ltb, eq-eqb, ne_eqb, le-leb, lt-leb}
 use Rattle.rules.specs.Base.{all_is, sum}
@@ -68,10 +68,6 @@ check-sum bs = low-check (sum9 (map word bs)) ∙ low_sum bs
     low-check n = omega arith
 
 -- ---- a packet's faults
-
--- the tests of a packet look at no figure of a system but its last line
-abbrev pub last_only : ℕ → System
-last_only last = record { sequences = 0; last = last }
 
 -- the tests of a packet's line, from what the code holds
 module _ (y : System) (last : ℕ) (e : y.last ≡ last) (h0 h1 : ℕ) where
@@ -178,26 +174,7 @@ fault-room y s z = go (ltb (length s) 7) (ltb (length s) (get_or s 5 0 + 7)) ref
     go false true e z = absurd (omega arith)
     go false false e z = ltb-false (length s) (get_or s 5 0 + 7) e
 
--- the same of the rest of a slice
-pub part_room : (y : System) (s : List ℕ) (at n : ℕ) → n ≡ string_fault y (take (length s - at) (drop at s)) → n ≡ 0
-    → at + (get_or s (at + 5) 0 + 7) ≤ length s
-part_room y s at n w z =
-    let k = fault-room y (drop at s) (sym (rw (rest_part at s) at w) ∙ z) in
-    let d = length-drop at s in
-    let g = get_or-drop at s 5 0 in
-    omega arith
-
--- the same of a part of a longer run
-pub run_room : (y : System) (us : List ℕ) (end at n : ℕ) → n ≡ string_fault y (take (end - at) (drop at us)) → n ≡ 0
-    → at + (get_or us (at + 5) 0 + 7) ≤ end
-run_room y us end at n w z =
-    let k = fault-room y (take (end - at) (drop at us)) (sym w ∙ z) in
-    let l = length-take (end - at) (drop at us) in
-    let g = get_or-take (end - at) (drop at us) 5 0 (omega arith) in
-    let h = get_or-drop at us 5 0 in
-    omega arith
-
--- and the other way: a packet that is all there is all in the part
+-- and the other way, of a part of a longer run: a packet that is all there is all in the part
 pub part-whole : (us : List ℕ) (end at : ℕ) → at + (get_or us (at + 5) 0 + 7) ≤ end → end ≤ length us
     → get_or (take (end - at) (drop at us)) 5 0 + 7 ≤ length (take (end - at) (drop at us))
 part-whole us end at h w =
