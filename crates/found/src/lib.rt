@@ -2,7 +2,7 @@
 // gives is a definition of the crate rules.
 #![tactic(auto)]
 
-ghost use Rattle.std.specs.Prelude.{◌+◌, ◌%◌, ◌≡◌, false, eqb, drop};
+ghost use Rattle.std.specs.Prelude.{◌≡◌, ◌+◌, ◌%◌, ◌≤◌, false, eqb, length, drop};
 ghost use Rattle.rules.specs.Found.{are_ten, found_fault, found_of_words, ten_before, found_word_at};
 ghost use Rattle.rules.specs.Refusals.{number};
 ghost use Rattle.found.specs.Checked.{ChecksFound};
@@ -15,11 +15,9 @@ use rules::{Refusal, Refused};
 fn are_ten(ws: &[u16]) -> bool
     ensures { result ≡ are_ten ws.now }
 {
-    let mut i = 0;
     let mut ok = true;
-    while i < ws.len() {
-        ok = ok & (ws[i] <= 0x3FF);
-        i += 1;
+    for &w in ws {
+        ok = ok & (w <= 0x3FF);
     }
     ok
 }
@@ -45,18 +43,27 @@ fn is_found(ws: &[u16]) -> bool
     are_ten(&ws[3..end])
 }
 
+// How many words stand in front of the first that is over 3FFh.
+fn ten_words(ws: &[u16]) -> usize
+    ensures value { result ≡ ten_before ws.now }
+    ensures within { result ≤ length ws.now }
+{
+    for (i, w) in ws.iter().enumerate() {
+        if *w > 0x3FF {
+            return i;
+        }
+    }
+    ws.len()
+}
+
 // The first word from DID on that is over 3FFh.
 fn over_word(ws: &[u16]) -> usize
     ensures { result ≡ 3 + ten_before (drop 3 ws.now) }
 {
-    let mut i = 3;
-    while i < ws.len() {
-        if ws[i] > 0x3FF {
-            return i;
-        }
-        i += 1;
+    if ws.len() < 3 {
+        return 3;
     }
-    i
+    3 + ten_words(&ws[3..])
 }
 
 // The first fault of the packet that the words begin with, where it has one: 8 for DID, SDID and DC stands before 9, and for the user words and CS

@@ -28,6 +28,13 @@ fn with_parity(b: u16) -> u16
     b + 512 - 256 * p
 }
 
+// Whether a word is that of its low byte.
+fn is_right(w: u16) -> bool
+    ensures { result ≡ is_word w }
+{
+    w == with_parity(w % 256)
+}
+
 // The ten-bit word of a byte (SMPTE 291).
 pub fn word_of(b: u8) -> u16
     ensures { result ≡ word b }
@@ -57,14 +64,11 @@ fn pass_of(ws: &[u16]) -> Pass
     requires { length ws.now ≤ 258 }
     ensures { result ≡ pass_of ws.now }
 {
-    let mut i = 0;
     let mut ok = true;
     let mut sum: u32 = 0;
-    while i < ws.len() {
-        let w = ws[i];
-        ok = ok & (w == with_parity(w % 256));
+    for &w in ws {
+        ok = ok & is_right(w);
         sum += low_nine(w);
-        i += 1;
     }
     Pass { words: ok, sum }
 }
@@ -151,23 +155,17 @@ fn looked_up(table: &[u16; 256], ws: &[u16]) -> Pass
     requires { length ws.now ≤ 258 }
     ensures { Passed table.now ws.now result }
 {
-    let mut at = 0;
-    let mut total: u32 = 0;
-    while at < ws.len() {
-        let w = ws[at];
+    let mut sum: u32 = 0;
+    for &w in ws {
         if !is_word(table, w) {
             return Pass {
                 words: false,
                 sum: 0,
             };
         }
-        total += low_nine(w);
-        at += 1;
+        sum += low_nine(w);
     }
-    Pass {
-        words: true,
-        sum: total,
-    }
+    Pass { words: true, sum }
 }
 
 // From so many words on, computing several at a time is faster than looking each up.
@@ -228,19 +226,27 @@ fn is_sound(table: &[u16; 256], ws: &[u16]) -> bool
     ws[end] == check_sum(low_nine(did) + low_nine(sdid) + low_nine(dc) + user.sum)
 }
 
+// How many words stand in front of the first that is not the word of its low byte.
+fn right_words(ws: &[u16]) -> usize
+    ensures value { result ≡ words_before ws.now }
+    ensures within { result ≤ length ws.now }
+{
+    for (i, w) in ws.iter().enumerate() {
+        if !is_right(*w) {
+            return i;
+        }
+    }
+    ws.len()
+}
+
 // The first word from DID on that is not the word of its low byte.
 fn wrong_word(ws: &[u16]) -> usize
     ensures { result ≡ 3 + words_before (drop 3 ws.now) }
 {
-    let mut i = 3;
-    while i < ws.len() {
-        let w = ws[i];
-        if w != with_parity(w % 256) {
-            return i;
-        }
-        i += 1;
+    if ws.len() < 3 {
+        return 3;
     }
-    i
+    3 + right_words(&ws[3..])
 }
 
 // DC; 0 where the words end before it.
