@@ -16,7 +16,7 @@ ghost use Rattle.sheet.specs.Telling.{Misplaced, header_of, told_sheet, tested_f
 
 mod write;
 
-use frame::Line;
+use frame::{Line, Raster, Raster720, Raster1080};
 use packet::{Counts, Sound, WordTests};
 use rules::{Refusal, Refused, Tested};
 pub use write::{write_sheet, write_words};
@@ -67,14 +67,12 @@ pub fn is_shaped(s: &[u16]) -> bool
 fn standing(last: Line, ls: &[u16]) -> usize
     ensures { (y : System) → y.last ≡ last.0 → result ≡ in_front (location_stands y) ls.now }
 {
-    let mut k = 0;
-    while k < ls.len() / 2 {
+    for k in 0..ls.len() / 2 {
         if ls[2 * k] > last.0 || ls[2 * k + 1] > 3 {
             return k;
         }
-        k += 1;
     }
-    k
+    ls.len() / 2
 }
 
 // How many locations in front of the first that is out of range or on a line that is not allowed: where there is none, neither 6 nor 20 is
@@ -82,38 +80,21 @@ fn standing(last: Line, ls: &[u16]) -> usize
 pub fn in_place(last: Line, ls: &[u16]) -> usize
     ensures { (y : System) → y.last ≡ last.0 → result ≡ in_front (in_place y) ls.now }
 {
-    let mut k = 0;
-    while k < ls.len() / 2 {
+    for k in 0..ls.len() / 2 {
         if ls[2 * k + 1] > 3 || !frame::may_stand(last, Line(ls[2 * k])) {
             return k;
         }
-        k += 1;
     }
-    k
+    ls.len() / 2
 }
 
-// Whether each location is in its place, in 1080: in one pass without a branch, so that the compiler tests many at a time.
-fn all_in_1080(ls: &[u16]) -> bool
-    ensures { (y : System) → y.last ≡ 1125 → result ≡ true → AllInPlace y ls.now }
+// Whether each location is in its place: in one pass without a branch, so that the compiler tests many at a time.
+fn all_in<R: Raster>(ls: &[u16]) -> bool
+    ensures { (y : System) → y.last ≡ R.last → result ≡ true → AllInPlace y ls.now }
 {
     let mut all = true;
-    let mut k = 0;
-    while k < ls.len() / 2 {
-        all = all & (ls[2 * k + 1] <= 3) & frame::is_allowed_in_1080(Line(ls[2 * k]));
-        k += 1;
-    }
-    all
-}
-
-// The same in 720.
-fn all_in_720(ls: &[u16]) -> bool
-    ensures { (y : System) → y.last ≡ 750 → result ≡ true → AllInPlace y ls.now }
-{
-    let mut all = true;
-    let mut k = 0;
-    while k < ls.len() / 2 {
-        all = all & (ls[2 * k + 1] <= 3) & frame::is_allowed_in_720(Line(ls[2 * k]));
-        k += 1;
+    for k in 0..ls.len() / 2 {
+        all = all & (ls[2 * k + 1] <= 3) & R::is_allowed(Line(ls[2 * k]));
     }
     all
 }
@@ -123,10 +104,10 @@ fn all_in_place(last: Line, ls: &[u16]) -> bool
     ensures { (y : System) → y.last ≡ last.0 → result ≡ true → AllInPlace y ls.now }
 {
     if last.0 == 1125 {
-        return all_in_1080(ls);
+        return all_in::<Raster1080>(ls);
     }
     if last.0 == 750 {
-        return all_in_720(ls);
+        return all_in::<Raster720>(ls);
     }
     false
 }
