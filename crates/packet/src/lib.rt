@@ -155,7 +155,7 @@ fn looked_up(table: &[u16; 256], ws: &[u16]) -> Pass
     requires { length ws.now ≤ 258 }
     ensures { Passed table.now ws.now result }
 {
-    let mut sum: u32 = 0;
+    let mut total: u32 = 0;
     for &w in ws {
         if !is_word(table, w) {
             return Pass {
@@ -163,9 +163,12 @@ fn looked_up(table: &[u16; 256], ws: &[u16]) -> Pass
                 sum: 0,
             };
         }
-        sum += low_nine(w);
+        total += low_nine(w);
     }
-    Pass { words: true, sum }
+    Pass {
+        words: true,
+        sum: total,
+    }
 }
 
 // From so many words on, computing several at a time is faster than looking each up.

@@ -10,7 +10,7 @@ use Rattle.packet.proofs.looked_up.Given as goal
 abbrev pub invariant-loop-w : goal.invariant-loop-w
 invariant-loop-w l =
     record {
-      few : l.sum ≤ 511 * l.w-index;
-      sum : l.sum + sum9 (drop l.w-index l.ws) ≡ sum9 l.ws;
+      few : l.total ≤ 511 * l.w-index;
+      sum : l.total + sum9 (drop l.w-index l.ws) ≡ sum9 l.ws;
       words : l.table ≡ word_table → are_words (drop l.w-index l.ws) ≡ are_words l.ws;
     }
