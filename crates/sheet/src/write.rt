@@ -137,7 +137,8 @@ fn look_up(table: &[u16; 256], b: u8) -> u16
     table[wide(b)]
 }
 
-// The words of a packet's bytes by the table, and the sum of these words for CS. Their bits 9 are summed too, which are multiples of 512.
+// The words of a packet's bytes by the table, and the sum of these words for CS: few at a time, where `write_coded` computes many in vectors.
+// Their bits 9 are summed too, which are multiples of 512.
 fn write_looked_up(table: &[u16; 256], s: &[u8], out: &mut [u16]) -> u32
     requires table_value { table.now ≡ word_table }
     requires s_len_bound { (length s.now ≤ 255) × (length out.old ≡ length s.now) }
@@ -154,6 +155,7 @@ fn write_looked_up(table: &[u16; 256], s: &[u8], out: &mut [u16]) -> u32
 }
 
 // The words of one packet by the table, from its bytes, DID to the last user byte: few, so that it takes less than `write_coded` and a sum.
+// Not `write_packet`, which knows of three bytes and looks these up without a loop.
 fn write_few(table: &[u16; 256], bytes: &[u8], out: &mut [u16])
     requires table_value { table.now ≡ word_table }
     requires bytes_len_bound { (length bytes.now ≤ 255) × (length out.old ≡ length bytes.now + 4) }
@@ -186,7 +188,7 @@ fn write_head(table: &[u16; 256], s: &[u8], out: &mut [u16]) -> u32
     u32::from(did) + u32::from(sdid) + u32::from(dc)
 }
 
-// The words of one packet from its own bytes, header and all.
+// The words of one packet from its own bytes, header and all. Not `write_few`, whose loop over DID, SDID and DC takes longer.
 fn write_packet(table: &[u16; 256], s: &[u8], out: &mut [u16])
     requires table_value { table.now ≡ word_table }
     requires in_bounds { (7 ≤ length s.now) × (length s.now ≤ 262) × (length out.old ≡ length s.now) }
@@ -199,7 +201,7 @@ fn write_packet(table: &[u16; 256], s: &[u8], out: &mut [u16])
 }
 
 // The same where the packets are short: packet by packet and by the table, since a pass over all bytes and another over the words, in runs too
-// short for vectors, take longer.
+// short for vectors, take longer. Two functions for this: they are two algorithms, chosen by speed.
 fn write_short_packets(s: &[u8], out: &mut [u16])
     requires whole { Whole s.now }
     requires out_len { length out.old ≡ length s.now }
