@@ -216,6 +216,21 @@ fn write_short_packets(s: &[u8], out: &mut [u16])
     }
 }
 
+// The words of so many packets, in the way that takes less.
+fn write_all_words(packets: usize, s: &[u8], out: &mut [u16])
+    requires whole { Whole s.now }
+    requires out_len { length out.old ≡ length s.now }
+    requires few { packets ≤ length s.now }
+    requires short { length s.now < 65536 }
+    ensures { out.new ≡ all_words (packets_shown s.now) }
+{
+    if s.len() < SHORT * packets {
+        write_short_packets(s, out)
+    } else {
+        write_packets(s, out)
+    }
+}
+
 // "A: the count 1, then the system." "B: the count P of locations, then P pairs". "C: the count W of words, then W words".
 fn write_sections(system: u16, packets: usize, s: &[u8], out: &mut [u16])
     requires { Measured packets s.now out.old }
@@ -227,11 +242,7 @@ fn write_sections(system: u16, packets: usize, s: &[u8], out: &mut [u16])
     let mid = 3 + 2 * packets;
     write_locations(s, &mut out[3..mid]);
     out[mid] = s.len() as u16;
-    if s.len() < SHORT * packets {
-        write_short_packets(s, &mut out[mid + 1..]);
-        return;
-    }
-    write_packets(s, &mut out[mid + 1..]);
+    write_all_words(packets, s, &mut out[mid + 1..]);
 }
 
 // A string cannot end past the array that it is the front of: an `end` there is the array's own.

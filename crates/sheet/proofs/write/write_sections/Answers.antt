@@ -7,15 +7,12 @@ use Rattle.sheet.proofs.write.write_sections.Goals as goal
 pub overflow_cast-out : goal.overflow_cast-out
 overflow_cast-out c = let k = (whole_long c.args.s.now c.requires.whole).few in omega (arith, k, c.requires.count, c.requires.few)
 
-pub overflow_mul-packets : goal.overflow_mul-packets
-overflow_mul-packets c = let k = (whole_long c.args.s.now c.requires.whole).few in omega (arith, k, c.requires.count, c.requires.few)
-
-pub returns-then-s-packets : goal.returns-then-s-packets
-returns-then-s-packets c =
-    sections-written c.args.system c.args.packets c.args.s.now c.args.out.now _ c.requires c.write_locations.ensures
-    c.write_short_packets.new.out c.write_short_packets.ensures
+pub write_all_words-requires-clause-few : goal.write_all_words-requires-clause-few
+write_all_words-requires-clause-few c =
+    let k = (whole_long c.args.s.now c.requires.whole).few in
+    omega (arith, k, c.requires.count)
 
 pub returns : goal.returns
 returns c =
     sections-written c.args.system c.args.packets c.args.s.now c.args.out.now _ c.requires c.write_locations.ensures
-    c.write_packets.new.out c.write_packets.ensures
+    c.write_all_words.new.out c.write_all_words.ensures
