@@ -1,14 +1,15 @@
 -- What each way through the code of reading says of the rules, over plain values.
 --
--- In order: 17; the number of an outcome; packs of 5; long packs; the first user byte; the area.
+-- In order: 17; what the user bytes hold; packs of 5; long packs; the first user byte; the area.
 -- Assumes nothing.
-use Prim.Native.Nat.{ℕ, zero, suc, ◌+◌, ◌-◌, ◌/◌, ◌%◌, ◌≤◌, ◌<◌}
-use mathlib.Core.Path.{◌≡◌, refl, sym, ap, ◌∙◌}
-use mathlib.Core.Bool.{Bool, true, false, cond, ◌&&◌}
+use Prim.Native.Nat.{ℕ, zero, suc, ◌+◌, ◌%◌, ◌≤◌, ◌<◌}
+use mathlib.Core.Path.{◌≡◌, refl, sym, ap, ◌∙◌, subst}
+use mathlib.Core.Bool.{Bool, true, false, cond}
 use mathlib.Core.List.{List, [], ◌∷◌, ◌++◌}
-use native.Mathlib.Nat.{sub-zero}
+use native.Mathlib.Nat.{sub-zero, zero-add}
 use native.Mathlib.Omega.{arith}
-use lib.Dec.{eqb, leb}
+use Rattle.std.proofs.Common.{Option, Some, None, Result, Ok, Err}
+use lib.Dec.{leb}
 use lib.ListN.{length, get_or, take, drop, length-append, length-take}
 use lib.Seq.{take-take, take_at}
 use borrow.Author.Tests.{le-leb, eq-eqb, ne_eqb}
@@ -18,73 +19,77 @@ use Rattle.rules.specs.Packet.{Packet}
 use Rattle.rules.specs.Danc.{string_byte_count, string}
 use Rattle.rules.specs.Sheet.{limit, sheet_of}
 use Rattle.rules.specs.Blocks.{width, runs, block_sizes, area_size, user_bytes_in}
-use Rattle.rules.specs.Packing1.{fives}
 use Rattle.rules.specs.Packing2.{Opened}
-use Rattle.rules.specs.Numbers.{Outcome, listed, refused, unless, packets_in}
-use Rattle.rules.specs.Reading.{string_row, pack_row, in_order, first_byte, packets_of_opened, packets_of_user_bytes, packing_found}
+use Rattle.rules.specs.Numbers.{Outcome, listed, refused, packets_in}
+use Rattle.rules.specs.Reading.{string_row, first_byte, packets_of_opened, packets_of_user_bytes, packing_found}
 use Rattle.rules.specs.Reading.{reading, read_back_of, read, buffer_after}
 use Rattle.rules.specs.Demands.{Reads}
+use Rattle.rules.specs.Refusals.{Told, tell, told, told_of}
 use Rattle.rules.specs.declared.ReadBack.{ReadBack}
+use Rattle.rules.specs.declared.Refused.{Refused}
 use Rattle.rules.proofs.Basics.{never, take-bytes}
-use Rattle.rules.proofs.Sheets.{sheet-length}
 use Rattle.rules.proofs.Long.{long-bytes}
 use Rattle.rules.proofs.Strings.{StringOf, string-laid, string-room}
-use Rattle.rules.proofs.Rows.{row-few, row-place}
 use Rattle.rules.proofs.Blocks.{gather-length, facts-of, known-low, each-system}
 use Rattle.rules.proofs.Reading.{reads}
 use Rattle.frame.specs.Bytes.{collected, bytes_after}
-use Rattle.frame.specs.Systems.{figures_of}
+use Rattle.frame.specs.Systems.{figures_of, figures_found}
 use Rattle.frame.specs.declared.Figures.{Figures}
-use Rattle.frame.proofs.Laws.{area-is, is-unknown, is_known}
+use Rattle.frame.proofs.Laws.{area-is, found_known, found_is, found_none}
 use Rattle.sheet.specs.Write.{shown_row, shown, wrote, sheet_after}
 use Rattle.sheet.proofs.WriteLaws.{shown-string, words-short}
-use Rattle.danc.specs.Code.{base, refused_from, code_of}
+use Rattle.danc.specs.declared.Validated.{Validated}
+use Rattle.danc.specs.Answer.{answer_of, counted}
 use Rattle.danc.specs.Validated.{validated, Within}
-use Rattle.danc.proofs.Codes.{limit-below, refused-parts, refused-above, listed-parts, listed_below}
 use Rattle.unpacking1.specs.Open.{Opens, packets_of_fives}
 use Rattle.packing2.specs.Unlong.{opened_from}
 use Rattle.packing2.proofs.UnlongLaws.{Answer, answer-none, answer-some}
-use Rattle.vanc.specs.Read.{Back, Coded}
+use Rattle.packing2.specs.declared.unlong.Opened.{Opened as Counts}
+use Rattle.vanc.specs.declared.reading.Found.{Found}
+use Rattle.rules.specs.declared.Refusal.TheVariants.{Buffer}
+use Rattle.vanc.specs.Whole.{whole}
+use Rattle.vanc.specs.Read.{Back, Shows, Finds, back_of}
 
 -- ---- 17
 
-module _ (sys k : ℕ) (ps : List Packet) (s sheet after : List ℕ) (n : ℕ) (e : shown s ≡ listed ps) (short : length s ≤ 9360)
+module _ (sys k : ℕ) (ps : List Packet) (s sheet after : List ℕ) (n : Option ℕ) (e : shown s ≡ listed ps) (short : length s ≤ 9360)
     (w : n ≡ wrote sys s (length sheet)) (a : after ≡ sheet_after sys s sheet) where
   -- the sheet has room
   abbrev roomy : Bool
   roomy = leb (length (sheet_of sys ps)) (length sheet)
 
   -- the buffer with the sheet in front
-  abbrev whole : List ℕ
-  whole = sheet_of sys ps ++ drop (length (sheet_of sys ps)) sheet
+  abbrev sheet-in : List ℕ
+  sheet-in = sheet_of sys ps ++ drop (length (sheet_of sys ps)) sheet
 
   -- how many numbers are written
-  number_is : n ≡ cond roomy (length (sheet_of sys ps)) 0
+  number_is : n ≡ cond roomy (Some (length (sheet_of sys ps))) None
   unfolding wrote
   number_is = w ∙ rw (e, words-short s ps e short)
 
   -- the buffer afterwards
-  after_is : after ≡ cond roomy whole sheet
+  after_is : after ≡ cond roomy sheet-in sheet
   unfolding sheet_after
   after_is = a ∙ rw (e, words-short s ps e short)
 
-  -- nothing is written: every sheet has numbers, so there is no room for it
-  pub no_room : n ≡ 0 → (r : ReadBack) → r ≡ read_back_of 0 0 (refused 17 0) → Back sys k sheet (listed ps) r after
-  no_room z r q = go roomy refl number_is after_is
+  -- nothing is written, since there is no room for it
+  pub no_room : n ≡ None → Back sys k sheet (listed ps) (read_back_of 0 0 (refused 17 0)) after
+  no_room z = go roomy refl number_is after_is
     where
-      go : (t : Bool) → roomy ≡ t → n ≡ cond t (length (sheet_of sys ps)) 0 → after ≡ cond t whole sheet → Back sys k sheet (listed ps) r after
-      go true p m b = let l = sheet-length sys ps in absurd (omega arith)
-      go false p m b = record { answer = q ∙ rw p; buffer = b ∙ rw p }
+      go : (t : Bool) → roomy ≡ t → n ≡ cond t (Some (length (sheet_of sys ps))) None → after ≡ cond t sheet-in sheet
+          → Back sys k sheet (listed ps) (read_back_of 0 0 (refused 17 0)) after
+      go true p m b = absurd (cc)
+      go false p m b = record { answer = rw p; buffer = b ∙ rw p }
 
   -- the sheet is written
-  pub all_room : (n ≡ 0 → ⊥) → (packets : ℕ) → packets ≡ length ps
-      → Back sys k sheet (listed ps) (record { number = 0; place = 0; packing = k; packets = packets; numbers = n }) after
-  all_room z packets q = go roomy refl number_is after_is
+  pub all_room : (numbers packets : ℕ) → n ≡ Some numbers → packets ≡ length ps
+      → Back sys k sheet (listed ps) (record { number = 0; place = 0; packing = k; packets = packets; numbers = numbers }) after
+  all_room numbers packets z q = go roomy refl number_is after_is
     where
-      go : (t : Bool) → roomy ≡ t → n ≡ cond t (length (sheet_of sys ps)) 0 → after ≡ cond t whole sheet
-          → Back sys k sheet (listed ps) (record { number = 0; place = 0; packing = k; packets = packets; numbers = n }) after
-      go true p m b = record { answer = rw (q, m, p); buffer = b ∙ rw p }
-      go false p m b = absurd (z m)
+      go : (t : Bool) → roomy ≡ t → n ≡ cond t (Some (length (sheet_of sys ps))) None → after ≡ cond t sheet-in sheet
+          → Back sys k sheet (listed ps) (record { number = 0; place = 0; packing = k; packets = packets; numbers = numbers }) after
+      go true p m b = let y : numbers ≡ length (sheet_of sys ps) = cc in record { answer = rw (q, y, p); buffer = b ∙ rw p }
+      go false p m b = absurd (cc)
 
 -- a refusal
 pub back-refused : {sys k n i : ℕ} {sheet : List ℕ} {o : Outcome} {r : ReadBack} → o ≡ refused n i → r ≡ read_back_of 0 0 (refused n i)
@@ -96,81 +101,105 @@ pub back-of : {sys k j : ℕ} {sheet : List ℕ} {o q : Outcome} {r : ReadBack} 
     → Back sys j sheet q r after
 back-of e f w = record { answer = w.answer ∙ rw (e, f); buffer = w.buffer ∙ rw f }
 
--- ---- the number of an outcome
+-- ---- what the user bytes hold
 
--- from where refusals begin on, its parts are a refusal's
-pub code-refused : {code : ℕ} {us : List ℕ} (o : Outcome) → length us ≡ 9360 → Coded o code us → refused_from ≤ code
-    → o ≡ refused ((code - refused_from) / base) ((code - refused_from) % base)
-code-refused {code} (listed ps) long w h =
-    let s = w.short ps refl in
-    let l = listed_below code ps w.answer (w.few ps refl) (omega arith) in
-    absurd (omega arith)
-code-refused {code} (refused n i) long w h = let p = refused-parts code n i w.answer (w.place n i refl) in rw (p.0, p.1)
+-- the string of no packets is nothing
+none-shown : shown [] ≡ listed []
+unfolding shown shown_row
+none-shown = refl
 
--- below, they are a list's
-code-listed : {code : ℕ} {us : List ℕ} (o : Outcome) → Coded o code us → code < refused_from
-    → (ps : List Packet) × (o ≡ listed ps) × (code % base ≡ length ps) × (shown (take (code / base) us) ≡ listed ps)
-code-listed {code} (refused n i) w h = let a = refused-above code n i w.answer in absurd (omega arith)
-code-listed {code} (listed ps) w h =
-    let p = listed-parts code ps w.answer (w.few ps refl) in
-    (ps, refl, p.1, rw p.0 (w.string ps refl))
+-- a string that is found is a list's
+found-list : (k : ℕ) (f : Found) (us : List ℕ) (o : Outcome) → Finds k o (Ok f) us
+    → (ps : List Packet) × (o ≡ listed ps) × (f.string.packets ≡ length ps) × (shown (take f.string.end us) ≡ listed ps)
+found-list k f us (listed ps) w =
+    let a = w.shows.answer in
+    let z : f.string ≡ counted (0 + length ps) (0 + string_byte_count ps) = cc in
+    let v : f.string ≡ counted (length ps) (string_byte_count ps) = z ∙ rw (zero-add (length ps), zero-add (string_byte_count ps)) in
+    (ps, refl, ap (λ (x : Validated). x.packets) v, ap (λ (x : Validated). shown (take x.end us)) v ∙ w.shows.string ps refl)
+found-list k f us (refused n i) w = let a = w.shows.answer in absurd (cc)
 
--- so what is given back of that list is given back of the outcome
-pub back-listed : {sys k code : ℕ} {sheet us after : List ℕ} {r : ReadBack} (o : Outcome) → Coded o code us → code < refused_from
-    → ((ps : List Packet) → shown (take (code / base) us) ≡ listed ps → code % base ≡ length ps → Back sys k sheet (listed ps) r after)
-    → Back sys k sheet o r after
-back-listed o w h made = let v = code-listed o w h in back-of refl v.1 (made v.0 v.3 v.2)
+-- so its sheet is written, or there is no room for it. The system's number is the sheet's
+module _ (sys k : ℕ) (f : Found) (us sheet after : List ℕ) (o : Outcome) (w : Finds k o (Ok f) us) (long : length us ≡ 9360)
+    (num : ℕ) (same : num ≡ sys) (n : Option ℕ) (m : n ≡ wrote num (take f.string.end us) (length sheet))
+    (a : after ≡ sheet_after num (take f.string.end us) sheet) where
+  short-front : length (take f.string.end us) ≤ 9360
+  short-front = let l = length-take f.string.end us in omega arith
+
+  m-is : n ≡ wrote sys (take f.string.end us) (length sheet)
+  m-is = m ∙ ap (λ (x : ℕ). wrote x (take f.string.end us) (length sheet)) same
+
+  a-is : after ≡ sheet_after sys (take f.string.end us) sheet
+  a-is = a ∙ ap (λ (x : ℕ). sheet_after x (take f.string.end us) sheet) same
+
+  pub found-over : (e : Refused) → n ≡ None → e ≡ whole Buffer → Back sys k sheet o (back_of (Err e)) after
+  found-over e z q =
+      let v = found-list k f us o w in
+      let b = no_room sys k v.0 (take f.string.end us) sheet after n v.3 short-front m-is a-is z in
+      subst (λ (x : Refused). Back sys k sheet o (back_of (Err x)) after) (sym q) (back-of refl v.1 b)
+
+  pub found-written : (numbers : ℕ) → n ≡ Some numbers
+      → Back sys k sheet o (record { number = 0; place = 0; packing = f.packing; packets = f.string.packets; numbers = numbers }) after
+  found-written numbers z =
+      let v = found-list k f us o w in
+      let b = all_room sys k v.0 (take f.string.end us) sheet after n v.3 short-front m-is a-is numbers f.string.packets z v.2 in
+      let made = λ (x : ℕ). Back sys k sheet (listed v.0) (record { number = 0; place = 0; packing = x; packets = f.string.packets; numbers = numbers }) after in
+      back-of refl v.1 (subst made (sym w.packing) b)
+
+-- a refusal that is found is given back
+pub found-refused : (sys k : ℕ) (e : Refused) (us sheet : List ℕ) (o : Outcome) → Finds k o (Err e) us → Back sys k sheet o (back_of (Err e)) sheet
+found-refused sys k e us sheet (listed ps) w = let a = w.shows.answer in absurd (cc)
+found-refused sys k e us sheet (refused n i) w =
+    let a = w.shows.answer in
+    let t : told e ≡ tell n i 0 = cc in
+    back-refused refl (ap (λ (x : Told). read_back_of 0 0 (refused x.number x.place)) t)
+
+-- another name of the same outcome
+pub shows-of : {o q : Outcome} {r : Result Validated Refused} {us : List ℕ} → q ≡ o → Shows o r us → Shows q r us
+shows-of e w = rw e w
+
+-- what one refusal of all shows
+pub shows-refused : {n : ℕ} {o : Outcome} {e : Refused} {us : List ℕ} → o ≡ refused n 0 → told e ≡ tell n 0 0 → Shows o (Err e) us
+shows-refused {o = o} {e = e} q t = record { answer = ap Err t ∙ rw q; short = λ ps h. never (cc); string = λ ps h. never (cc) }
+
+-- no packets
+pub shows-none : {o : Outcome} {us : List ℕ} → o ≡ listed [] → Shows o (Ok (counted 0 0)) us
+shows-none {o} {us} q =
+    record {
+      answer = rw q;
+      short = λ ps h. let z : ps ≡ [] = cc in rw z (omega arith);
+      string = λ ps h. let z : ps ≡ [] = cc in rw z none-shown;
+    }
+
+-- a refusal, and a string, with the packing
+pub finds-err : {k : ℕ} {o : Outcome} {e : Refused} {us : List ℕ} → Shows o (Err e) us → Finds k o (Err e) us
+finds-err w = record { shows = w; packing = tt }
+
+pub finds-ok : {k j : ℕ} {o : Outcome} {v : Validated} {us : List ℕ} → k ≡ j → Shows o (Ok v) us
+    → Finds k o (Ok (record { packing = j; string = v })) us
+finds-ok q w = record { shows = w; packing = sym q }
 
 -- ---- packs of 5
 
-module _ (y : System) (us : List ℕ) (total : ℕ) where
-  -- the packets of the packs
-  abbrev row5 : Outcome
-  row5 = packets_in (pack_row y) limit 0 (fives (take total us))
-
-  -- a refusal's packet is below the base
-  fives-place : (n i : ℕ) → packets_of_fives y us total ≡ refused n i → i < base
-  unfolding packets_of_fives
-  fives-place n i e = go (leb total (length us) && eqb (total % 5) 0) (in_order false (fives (take total us))) e
-    where
-      go : (a b : Bool) → unless 13 a (unless 13 b row5) ≡ refused n i → i < base
-      go false b e = let z : 0 ≡ i = cc in omega arith
-      go true false e = let z : 0 ≡ i = cc in omega arith
-      go true true e = let l = row-place (pack_row y) limit 0 (fives (take total us)) n i e in let m = limit-below in omega arith
-
-  -- and so is the number of packets
-  fives-few : (ps : List Packet) → packets_of_fives y us total ≡ listed ps → length ps < base
-  unfolding packets_of_fives
-  fives-few ps e = go (leb total (length us) && eqb (total % 5) 0) (in_order false (fives (take total us))) e
-    where
-      go : (a b : Bool) → unless 13 a (unless 13 b row5) ≡ listed ps → length ps < base
-      go false b e = never (cc)
-      go true false e = never (cc)
-      go true true e = let l = row-few (pack_row y) limit 0 (fives (take total us)) ps e in let m = limit-below in omega arith
-
-  -- what opening leaves
-  pub fives-coded : y.last < 2047 → (code : ℕ) (after : List ℕ) → Opens y (packets_of_fives y us total) code after
-      → Coded (packets_of_fives y us total) code after
-  fives-coded hm code after w =
-      record {
-        answer = w.answer;
-        place = fives-place;
-        few = fives-few;
-        short = λ ps e.
-            let v = w.string ps e in
-            let l : length (take (string_byte_count ps) after) ≡ string_byte_count ps =
-            ap length v.front ∙ string-room v.items ∙ ap string_byte_count v.packets in
-            let m : length (take (string_byte_count ps) after) ≤ length after = simp length-take (omega arith) in
-            omega arith;
-        string = λ ps e.
-            let v = w.string ps e in
-            ap shown v.front ∙ shown-string y hm v.items v.good ∙ ap listed v.packets;
-      }
+-- what opening leaves
+pub fives-shown : (y : System) → y.last < 2047 → {o : Outcome} {r : Result Validated Refused} {after : List ℕ} → Opens y o r after → Shows o r after
+fives-shown y hm {o} {r} {after} w =
+    record {
+      answer = w.answer;
+      short = λ ps e.
+          let v = w.string ps e in
+          let l : length (take (string_byte_count ps) after) ≡ string_byte_count ps =
+          ap length v.front ∙ string-room v.items ∙ ap string_byte_count v.packets in
+          let m : length (take (string_byte_count ps) after) ≤ length after = simp length-take (omega arith) in
+          omega arith;
+      string = λ ps e.
+          let v = w.string ps e in
+          ap shown v.front ∙ shown-string y hm v.items v.good ∙ ap listed v.packets;
+    }
 
 -- ---- long packs
 
-module _ (y : System) (hm : y.last < 2047) (us : List ℕ) (len room code : ℕ) (b : Bytes (take len us))
-    (v : code ≡ validated y room (take len us) 0 0) where
+module _ (y : System) (hm : y.last < 2047) (us : List ℕ) (len room : ℕ) (r : Result Validated Refused) (b : Bytes (take len us))
+    (v : told_of r ≡ validated y room (take len us) 0 0) where
   -- the packets of the string
   abbrev walked : Outcome
   walked = packets_in (string_row y room) limit 0 (take len us)
@@ -199,37 +228,35 @@ module _ (y : System) (hm : y.last < 2047) (us : List ℕ) (len room code : ℕ)
         ∙ ap (take (string_byte_count ps)) laid.whole
         ∙ take_at (string laid.items) laid.tail (string_byte_count ps) laid-bytes
 
-  -- so the number and the bytes are those of the outcome
-  pub long-coded : Coded walked code us
+  -- so the answer and the bytes are those of the outcome
+  pub long-shown : Shows walked r us
   unfolding validated
-  long-coded =
+  long-shown =
       record {
-        answer = v ∙ ap (λ (n : ℕ). code_of 0 0 (packets_in (string_row y room) n 0 (take len us))) (sub-zero limit);
-        place = λ n i e. let l = row-place (string_row y room) limit 0 (take len us) n i e in let m = limit-below in omega arith;
-        few = λ ps e. let l = row-few (string_row y room) limit 0 (take len us) ps e in let m = limit-below in omega arith;
+        answer = v ∙ ap (λ (n : ℕ). answer_of 0 0 (packets_in (string_row y room) n 0 (take len us))) (sub-zero limit);
         short = λ ps e. let l = laid-short ps e in let m = length-take len us in omega arith;
         string = λ ps e. ap shown (laid-front ps e) ∙ shown-string y hm (laid ps e).items (laid ps e).good ∙ ap listed (laid ps e).packets;
       }
 
--- what opening's number says: nothing opened
-pub long-shut : (y : System) (o : Opened) (r : ℕ) (us : List ℕ) → Answer o r us → r ≡ 0 → packets_of_opened y o ≡ refused 13 0
-long-shut y o r us w z = ap (packets_of_opened y) (answer-none o r us w z)
+-- what opening says: nothing opened
+pub long-shut : (y : System) (o : Opened) (us : List ℕ) → Answer o None us → packets_of_opened y o ≡ refused 13 0
+long-shut y o us w = ap (packets_of_opened y) (answer-none o us w)
 
 -- or a string
-pub long-open : (y : System) (o : Opened) (r : ℕ) (us : List ℕ) → Answer o r us → (r ≡ 0 → ⊥)
-    → packets_of_opened y o ≡ packets_in (string_row y (r % 128)) limit 0 (take (r / 128) us)
-long-open y o r us w z = ap (packets_of_opened y) (answer-some o r us w z).0
+pub long-open : (y : System) (o : Opened) (p : Counts) (us : List ℕ) → Answer o (Some p) us
+    → packets_of_opened y o ≡ packets_in (string_row y p.room) limit 0 (take p.bytes us)
+long-open y o p us w = ap (packets_of_opened y) (answer-some o p us w).0
 
 -- no longer than the string's room
-pub long-len : (o : Opened) (r : ℕ) (us : List ℕ) → Answer o r us → (r ≡ 0 → ⊥) → r / 128 ≤ 8928
-long-len o r us w z = (answer-some o r us w z).1
+pub long-len : (o : Opened) (p : Counts) (us : List ℕ) → Answer o (Some p) us → p.bytes ≤ 8928
+long-len o p us w = (answer-some o p us w).1
 
 -- the string is bytes, as the user bytes are
-pub long-string : (sys : ℕ) → known sys ≡ true → (us : List ℕ) → Bytes us → (r : ℕ) (after : List ℕ)
-    → Answer (opened_from sys us) r after → (r ≡ 0 → ⊥) → Bytes (take (r / 128) after)
-long-string sys k us b r after w z =
-    long-bytes (block_sizes (system sys)) (take (sum (block_sizes (system sys))) us) (take (r / 128) after) (r % 128) (facts-of sys k).roomy
-    (take-bytes (sum (block_sizes (system sys))) us b) (answer-some (opened_from sys us) r after w z).0
+pub long-string : (sys : ℕ) → known sys ≡ true → (us : List ℕ) → Bytes us → (p : Counts) (after : List ℕ)
+    → Answer (opened_from sys us) (Some p) after → Bytes (take p.bytes after)
+long-string sys k us b p after w =
+    long-bytes (block_sizes (system sys)) (take (sum (block_sizes (system sys))) us) (take p.bytes after) p.room (facts-of sys k).roomy
+    (take-bytes (sum (block_sizes (system sys))) us b) (answer-some (opened_from sys us) p after w).0
 
 -- the bounds of validation
 pub long-within : (len : ℕ) → len ≤ 8928 → Within len 0 0
@@ -304,6 +331,10 @@ module _ (sys total : ℕ) (us : List ℕ) (known : known sys ≡ true) (is : to
       let z : total % 5 ≡ 0 = omega arith in
       (rw (here 0xE1 e), rw (here 0xE1 e, le-leb total (length us) (omega arith), eq-eqb (total % 5) 0 z))
 
+  pub fives-found : get_or us 0 0 ≡ 0xE1 → {last : ℕ} → last ≡ y.last → {r : Result Validated Refused} {after : List ℕ}
+      → ((z : System) → z.last ≡ last → Opens z (packets_of_fives z us total) r after) → Shows (packets_of_user_bytes y sizes ub) r after
+  fives-found e q w = shows-of (users-fives e).1 (fives-shown y f.last (w y (sym q)))
+
   -- E3h
   pub users-long : get_or us 0 0 ≡ 0xE3 → (packing_found ub ≡ 2) × (packets_of_user_bytes y sizes ub ≡ packets_of_opened y (opened_from sys us))
   unfolding packets_of_user_bytes
@@ -325,26 +356,25 @@ module _ (sys total : ℕ) (us : List ℕ) (known : known sys ≡ true) (is : to
   unfolding packets_of_user_bytes
   users-other a b c = rw (first, ne_eqb (get_or us 0 0) 0xE1 a, ne_eqb (get_or us 0 0) 0xE3 b, ne_eqb (get_or us 0 0) 0xFF c)
 
--- the string of no packets is nothing
-pub none-shown : shown [] ≡ listed []
-unfolding shown shown_row
-none-shown = refl
-
 -- ---- the area
 
 -- from what the code holds: the figures that were found, and the area's numbers, which are bytes
-module _ (sys : ℕ) (area : List ℕ) {x : Figures} (is : x ≡ figures_of sys) (b : Bytes area) where
+module _ (sys : ℕ) (area : List ℕ) (b : Bytes area) where
   -- 3
-  pub unknown-reads : {sheet : List ℕ} {r : ReadBack} → x.sequences ≡ 0 → r ≡ read_back_of 0 0 (refused 3 0) → Reads sys area sheet r sheet
+  pub unknown-reads : {sheet : List ℕ} {r : ReadBack} → None ≡ figures_found sys → r ≡ read_back_of 0 0 (refused 3 0)
+      → Reads sys area sheet r sheet
   unfolding read buffer_after reading
-  unknown-reads {sheet} {r} z q =
-      let k = is-unknown sys x is z in
+  unknown-reads {sheet} {r} n q =
+      let k = found_none sys n in
       reads sys area sheet r sheet b (q ∙ rw k) (rw k)
 
-  module _ (z : x.sequences ≡ 0 → ⊥) where
-    -- the system is known
+  module _ {x : Figures} (found : Some x ≡ figures_found sys) where
+    -- the system is known, and the figures are its own
     here-known : known sys ≡ true
-    here-known = is_known sys x is z
+    here-known = found_known sys x found
+
+    is : x ≡ figures_of sys
+    is = found_is sys x found
 
     -- 4
     pub other-reads : {sheet : List ℕ} {r : ReadBack} → (length area ≡ x.area → ⊥) → r ≡ read_back_of 0 0 (refused 4 0)

@@ -1,27 +1,34 @@
 // Laying a sheet's packets into the area of a frame (document 01, "Numbers given back"; 001, 4.1). Tests come first and the area is
 // written last, so that on a refusal it "is unchanged". Quotations are from document 01.
-ghost use Rattle.std.specs.Prelude.{◌≤◌, ◌≡◌, length};
-ghost use Rattle.rules.specs.Systems.{system};
-ghost use Rattle.rules.specs.Numbers.{refused};
-ghost use Rattle.rules.specs.Laying.{laid_of, laid_with};
+ghost use Rattle.std.specs.Prelude.{ℕ, ◌≤◌, ◌≡◌, List, Err, length};
 ghost use Rattle.rules.specs.Demands.{Lays};
+ghost use Rattle.frame.specs.Systems.{figures_of};
 ghost use Rattle.sections.specs.Sections.{Sections};
 ghost use Rattle.packing1.specs.Fives.{Roomy};
-ghost use Rattle.vanc.specs.Lay.{LaysInto, Passed, LaysList};
+ghost use Rattle.vanc.specs.Lay.{LaysInto, Passed, LaysList, number_of_packing, packing_of, success_of, given_of, TellsSheet, TellsShape};
 
-use rules::{Laid, Tested};
-use sheet::wide;
+use crate::refused;
+use frame::Figures;
+use rules::{Laid, Refusal, Refused};
+use sheet::{Header, wide};
 
-// "On refusal the later figures are 0". The word is the one that the sheet's tests name (document 02, A2).
-fn refusal(number: u64, place: u64, word: u64) -> Laid
-    ensures { result ≡ laid_with word (laid_of 1 (system 1) (refused number place)) }
-{
-    Laid {
-        number,
-        place,
-        word,
-        packs: 0,
-        bytes: 0,
+// "Packing 1, packs of 5", "Packing 2, long packs".
+#[derive(Clone, Copy)]
+enum Packing {
+    Fives,
+    Long,
+}
+
+impl Packing {
+    // "1 | packing is neither 1 nor 2".
+    fn of(number: u64) -> Option<Packing>
+        ensures { result ≡ packing_of number }
+    {
+        match number {
+            1 => Some(Packing::Fives),
+            2 => Some(Packing::Long),
+            _ => None,
+        }
     }
 }
 
@@ -45,57 +52,100 @@ fn lay2(system: u64, ls: &[u16], ws: &[u16], area: &mut [u8])
     packing2::lay_long(system, &s, ws.len(), area);
 }
 
-// "12 | over the packs (packing 1) or string bytes (packing 2)", the last test: only then is the area written.
-fn lay_list(packing: u64, t: Tested, sheet: &[u16], area: &mut [u8]) -> Laid
-    requires { Passed t sheet.now }
-    ensures { LaysList packing t sheet.now area.old result area.new }
+// What is given back of a list that is laid.
+fn success(packs: usize, bytes: usize) -> Laid
+    ensures { result ≡ success_of packs bytes }
 {
-    let figures = frame::figures_of(t.system);
-    let ls = sections::section_b(sheet);
-    let ws = sections::section_c(sheet);
-    if packing == 1 {
-        if t.packs > figures.packs as u64 {
-            return refusal(12, 0, 0);
-        }
-        lay1(t.system, ls, ws, area);
-        return Laid {
-            number: 0,
-            place: 0,
-            word: 0,
-            packs: t.packs,
-            bytes: t.bytes,
-        };
-    }
-    if t.bytes > figures.string_bytes as u64 {
-        return refusal(12, 0, 0);
-    }
-    lay2(t.system, ls, ws, area);
     Laid {
         number: 0,
         place: 0,
         word: 0,
-        packs: packing2::long_count(t.bytes as usize) as u64,
-        bytes: t.bytes,
+        packs: packs as u64,
+        bytes: bytes as u64,
     }
 }
 
+// "12 | over the packs (packing 1) or string bytes (packing 2)", the last test: only then is the area written.
+fn lay_list(
+    packing: Packing,
+    header: Header,
+    figures: Figures,
+    sheet: &[u16],
+    area: &mut [u8],
+) -> Result<Laid, Refused>
+    requires { Passed header sheet.now × (figures ≡ figures_of header.system) }
+    ensures { LaysList (number_of_packing packing) header sheet.now area.old (given_of result) area.new }
+{
+    let counts = header.counts;
+    let ls = sections::section_b(sheet);
+    let ws = sections::section_c(sheet);
+    match packing {
+        Packing::Fives => {
+            if counts.packs > figures.packs {
+                return Err(refused(Refusal::Room));
+            }
+            lay1(header.system, ls, ws, area);
+            Ok(success(counts.packs, counts.bytes))
+        }
+        Packing::Long => {
+            if counts.bytes > figures.string_bytes {
+                return Err(refused(Refusal::Room));
+            }
+            lay2(header.system, ls, ws, area);
+            Ok(success(packing2::long_count(counts.bytes), counts.bytes))
+        }
+    }
+}
+
+// 2, the first of the sheet's tests, which stands before the area's.
+fn shape(tested: Result<Header, Refused>) -> Result<(), Refused>
+    ensures { (s : List ℕ) → TellsSheet s tested → TellsShape s result }
+{
+    if let Err(e) = tested {
+        if e.refusal == Refusal::Shape {
+            return Err(e);
+        }
+    }
+    Ok(())
+}
+
 // "Laying tests 1 to 6 in table order. Then packet by packet": 4, the area's, stands between the sheet's 3 and its 5.
+fn lay_with(sheet: &[u16], packing: u64, area: &mut [u8]) -> Result<Laid, Refused>
+    ensures { Lays packing sheet.now area.old (given_of result) area.new }
+{
+    let Some(packing) = Packing::of(packing) else {
+        return Err(refused(Refusal::Packing));
+    };
+    let tested = sheet::tests(sheet);
+    shape(tested)?;
+    let Some(figures) = frame::figures_of(wide(sheet[1]) as u64) else {
+        return Err(refused(Refusal::System));
+    };
+    if area.len() != figures.area {
+        return Err(refused(Refusal::AreaLength));
+    }
+    let header = tested?;
+    lay_list(packing, header, figures, sheet, area)
+}
+
+// "On refusal the later figures are 0". The word is the one that the sheet's tests name (document 02, A2).
+fn refusal(e: Refused) -> Laid
+    ensures { result ≡ given_of (Err e) }
+{
+    Laid {
+        number: e.refusal.number(),
+        place: e.place as u64,
+        word: e.word as u64,
+        packs: 0,
+        bytes: 0,
+    }
+}
+
 pub fn lay(sheet: &[u16], packing: u64, area: &mut [u8]) -> Laid
     ensures { Lays packing sheet.now area.old result area.new }
 {
-    if packing != 1 && packing != 2 {
-        return refusal(1, 0, 0);
+    match lay_with(sheet, packing, area) {
+        Ok(laid) => laid,
+        Err(e) => refusal(e),
     }
-    let t = sheet::test(sheet);
-    if t.number == 2 || t.number == 3 {
-        return refusal(t.number, 0, 0);
-    }
-    let figures = frame::figures_of(wide(sheet[1]) as u64);
-    if area.len() != figures.area {
-        return refusal(4, 0, 0);
-    }
-    if t.number != 0 {
-        return refusal(t.number, t.place, t.word);
-    }
-    lay_list(packing, t, sheet, area)
 }
