@@ -31,7 +31,7 @@ fn walked_on(system: u64, string: &[u8], place: StringByte) -> Walked
 {
     let answer = walk(system, string, place);
     Walked {
-        answer: answer,
+        answer,
         at: StringByte(place.0 + answer.length),
     }
 }
@@ -42,8 +42,8 @@ impl<'a> Walker<'a> {
         ensures { result ≡ started system string.entry }
     {
         Walker {
-            system: system,
-            string: string,
+            system,
+            string,
             at: StringByte(0),
         }
     }
@@ -64,13 +64,13 @@ pub fn next(system: u64, string: &[u8], place: StringByte) -> Walked
     ensures { result ≡ walked_on system string.now place.0 }
 {
     let mut walker = Walker {
-        system: system,
-        string: string,
+        system,
+        string,
         at: place,
     };
     let answer = walker.step();
     Walked {
-        answer: answer,
+        answer,
         at: walker.at,
     }
 }
@@ -81,13 +81,11 @@ pub fn kth(system: u64, string: &[u8], k: u64) -> Step
     ensures { result ≡ answer system string.now k }
 {
     let mut walked = next(system, string, StringByte(0));
-    let mut i: u64 = 0;
-    while i < k {
+    for _ in 0..k {
         if walked.answer.length == 0 {
             return walked.answer;
         }
         walked = next(system, string, walked.at);
-        i += 1;
     }
     walked.answer
 }
