@@ -8,7 +8,6 @@ use mathlib.Core.Bool.{true, false}
 use mathlib.Core.List.{List, [], ◌∷◌}
 use native.Mathlib.Numerals.{add-one}
 use native.Mathlib.Omega.{arith}
-use lib.Dec.{eqb}
 use lib.ListN.{length, get_or, take, set, length-set}
 use lib.Seq.{take-suc, take_all, take-suc-set, length-take-le}
 use borrow.Author.Tests.{leb-true, le-leb, lt-leb}
@@ -97,14 +96,6 @@ file-none s file h = rw (lt-leb (2 * length s) (length file) (omega arith)) (ref
 -- ---- the file's length
 
 module _ (file : List ℕ) where
-  pub too_long : 65536 < length file → false ≡ is_whole file
-  unfolding is_whole
-  too_long h = rw (lt-leb (length file) 65536 h)
-
-  pub by-parity : length file ≤ 65536 → eqb (length file % 2) 0 ≡ is_whole file
-  unfolding is_whole
-  by-parity h = rw (le-leb (length file) 65536 h)
-
   pub whole_length : is_whole file ≡ true → length file ≤ 65536
   unfolding is_whole
   whole_length h = leb-true _ _ (both _ _ h).0

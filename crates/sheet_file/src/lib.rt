@@ -14,7 +14,7 @@ pub const NUMBERS: usize = LONGEST / 2;
 fn number(high: u8, low: u8) -> u16
     ensures { result ≡ high * 256 + low }
 {
-    (high as u16) * 256 + (low as u16)
+    u16::from(high) * 256 + u16::from(low)
 }
 
 // The numbers of the file's first 2n bytes, at the start of s.
@@ -22,12 +22,8 @@ fn numbers(file: &[u8], s: &mut [u16])
     requires { length file.now / 2 ≤ length s.old }
     ensures { take (length file.now / 2) s.new ≡ numbers_of file.now }
 {
-    let n = file.len() / 2;
-    let mut i = 0;
-    while i < n {
-        let at = 2 * i;
-        s[i] = number(file[at], file[at + 1]);
-        i += 1;
+    for i in 0..file.len() / 2 {
+        s[i] = number(file[2 * i], file[2 * i + 1]);
     }
 }
 
@@ -35,10 +31,7 @@ fn numbers(file: &[u8], s: &mut [u16])
 pub fn is_whole(file: &[u8]) -> bool
     ensures { result ≡ is_whole file.now }
 {
-    if LONGEST < file.len() {
-        return false;
-    }
-    file.len() % 2 == 0
+    file.len() <= LONGEST && file.len() % 2 == 0
 }
 
 // The sheet of a file, at the start of s: how many numbers it has. A file of another length than a sheet's has the sheet without numbers, which
@@ -67,12 +60,9 @@ pub fn encode(s: &[u16], file: &mut [u8]) -> usize
     if file.len() / 2 < s.len() {
         return 0;
     }
-    let mut i = 0;
-    while i < s.len() {
-        let at = 2 * i;
-        file[at] = high(s[i]);
-        file[at + 1] = packet::low(s[i]);
-        i += 1;
+    for (i, n) in s.iter().enumerate() {
+        file[2 * i] = high(*n);
+        file[2 * i + 1] = packet::low(*n);
     }
     2 * s.len()
 }
@@ -83,8 +73,5 @@ pub fn encode_first(s: &[u16], n: usize, file: &mut [u8]) -> usize
     ensures { (result ≡ length (file_in (length file.old) (take n s.now)))
         × (take result file.new ≡ file_in (length file.old) (take n s.now)) }
 {
-    if s.len() <= n {
-        return encode(s, file);
-    }
-    encode(&s[..n], file)
+    encode(&s[..n.min(s.len())], file)
 }
