@@ -92,6 +92,11 @@ packets_shown s = list_in (shown s)
 abbrev pub Whole : List ℕ → Type 0
 Whole s = shown s ≡ listed (packets_shown s)
 
+-- room for the words of whole packets: "A DANC packet has as many bytes as its VANC packet has words"
+pub record RoomForWords (s out : List ℕ) : Type 0 where
+  pub whole : Whole s
+  pub long : length out ≡ length s
+
 -- what measuring has shown: whole packets, so many, in few enough bytes, and as many numbers to write as their sheet has
 pub record Measured (packets : ℕ) (s out : List ℕ) : Type 0 where
   pub whole : Whole s

@@ -6,7 +6,7 @@ ghost use Rattle.rules.specs.Packet.{word, sum9};
 ghost use Rattle.rules.specs.Sheet.{locations, all_words, sheet_of};
 ghost use Rattle.rules.specs.Reading.{line_of};
 ghost use Rattle.packet.specs.Run.{word_table};
-ghost use Rattle.sheet.specs.Write.{wrote, sheet_after, framed, words_after, head_of, id_sum, packets_shown, Whole, Measured, count_to};
+ghost use Rattle.sheet.specs.Write.{wrote, sheet_after, framed, words_after, head_of, id_sum, packets_shown, Whole, RoomForWords, Measured, count_to};
 
 use frame::wide;
 
@@ -116,8 +116,7 @@ pub fn write_words(table: &[u16; 256], bytes: &[u8], out: &mut [u16])
 // "W words: packets back to back". "A DANC packet has as many bytes as its VANC packet has words", so both stand at one place.
 // One pass over all bytes and then the flags and CS, since short runs of words are slower than one long one.
 fn write_packets(s: &[u8], out: &mut [u16])
-    requires whole { Whole s.now }
-    requires out_len { length out.old ≡ length s.now }
+    requires { RoomForWords s.now out.old }
     ensures { out.new ≡ all_words (packets_shown s.now) }
 {
     write_coded(s, out);
@@ -203,8 +202,7 @@ fn write_packet(table: &[u16; 256], s: &[u8], out: &mut [u16])
 // The same where the packets are short: packet by packet and by the table, since a pass over all bytes and another over the words, in runs too
 // short for vectors, take longer. Two functions for this: they are two algorithms, chosen by speed.
 fn write_short_packets(s: &[u8], out: &mut [u16])
-    requires whole { Whole s.now }
-    requires out_len { length out.old ≡ length s.now }
+    requires { RoomForWords s.now out.old }
     ensures { out.new ≡ all_words (packets_shown s.now) }
 {
     let table = packet::words();
@@ -218,8 +216,7 @@ fn write_short_packets(s: &[u8], out: &mut [u16])
 
 // The words of so many packets, in the way that takes less.
 fn write_all_words(packets: usize, s: &[u8], out: &mut [u16])
-    requires whole { Whole s.now }
-    requires out_len { length out.old ≡ length s.now }
+    requires room { RoomForWords s.now out.old }
     requires few { packets ≤ length s.now }
     requires short { length s.now < 65536 }
     ensures { out.new ≡ all_words (packets_shown s.now) }
