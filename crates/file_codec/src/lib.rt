@@ -16,22 +16,26 @@ use mxf::{ElementRead, ElementWritten};
 use rules::{Laid, ReadBack};
 use sheet_file::NUMBERS;
 
+// The sheet in a file: its numbers, at the start of s.
+fn sheet_of<'a>(file: &[u8], s: &'a mut [u16; NUMBERS]) -> &'a [u16]
+    ensures { result.now ≡ sheet_in file.now }
+{
+    let n = sheet_file::decode(file, s);
+    &s[..n]
+}
+
 // The packets of a sheet file, laid into an area. The sheet's numbers then stand at the start of s.
 pub fn lay_file(file: &[u8], packing: u64, s: &mut [u16; NUMBERS], area: &mut [u8]) -> Laid
     ensures { Lays packing (sheet_in file.now) area.old result area.new }
 {
-    let n = sheet_file::decode(file, s);
-    let numbers = &s[..];
-    vanc::lay(&numbers[..n], packing, area)
+    vanc::lay(sheet_of(file, s), packing, area)
 }
 
 // The same within the eight-bit profile (document 02, A14).
 pub fn lay_file_eight(file: &[u8], packing: u64, s: &mut [u16; NUMBERS], area: &mut [u8]) -> Laid
     ensures { LaysStrict packing (sheet_in file.now) area.old result area.new }
 {
-    let n = sheet_file::decode(file, s);
-    let numbers = &s[..];
-    profile::lay(&numbers[..n], packing, area)
+    profile::lay(sheet_of(file, s), packing, area)
 }
 
 // An area's packets as a sheet, and the bytes of its file.
@@ -56,9 +60,7 @@ pub fn write_element(
 ) -> ElementWritten
     ensures { WritesElement fi (sheet_in file.now) element.old result element.new }
 {
-    let n = sheet_file::decode(file, s);
-    let numbers = &s[..];
-    mxf::write(&numbers[..n], fi, element)
+    mxf::write(sheet_of(file, s), fi, element)
 }
 
 // The same of ten-bit samples, as found (document 02, A13).
@@ -70,9 +72,7 @@ pub fn write_element10(
 ) -> ElementWritten
     ensures { WritesTen fi (sheet_in file.now) element.old result element.new }
 {
-    let n = sheet_file::decode(file, s);
-    let numbers = &s[..];
-    mxf10::write(&numbers[..n], fi, element)
+    mxf10::write(sheet_of(file, s), fi, element)
 }
 
 // An element's packets as a sheet, and the bytes of its file.
