@@ -19,7 +19,6 @@ use Rattle.rules.specs.Reading.{line_in, line_of, packet_of_bytes, bytes_fault, 
 use Rattle.rules.specs.Refusals.{number}
 use Rattle.rules.specs.Walker.{step, walk}
 use Rattle.rules.specs.declared.Refusal.{Refusal}
-use Rattle.rules.specs.declared.Refusal.TheVariants as kind
 use Rattle.rules.proofs.Basics.{chosen, fill-all_is, rest_part}
 use Rattle.rules.proofs.Lines.{allowed-none, allowed-last}
 use Rattle.rules.proofs.Walker.{step_end as ended}
@@ -188,27 +187,7 @@ part-whole us end at h w =
 
 -- each has a number
 pub is-some : (r : Refusal) → number r ≡ 0 → ⊥
-is-some kind.Packing e = absurd (omega arith)
-is-some kind.Shape e = absurd (omega arith)
-is-some kind.System e = absurd (omega arith)
-is-some kind.AreaLength e = absurd (omega arith)
-is-some kind.PacketLimit e = absurd (omega arith)
-is-some kind.Location e = absurd (omega arith)
-is-some kind.Flag e = absurd (omega arith)
-is-some kind.Word e = absurd (omega arith)
-is-some kind.CutOff e = absurd (omega arith)
-is-some kind.Checksum e = absurd (omega arith)
-is-some kind.PacketCount e = absurd (omega arith)
-is-some kind.Room e = absurd (omega arith)
-is-some kind.Packs e = absurd (omega arith)
-is-some kind.Length e = absurd (omega arith)
-is-some kind.StoredChecksum e = absurd (omega arith)
-is-some kind.Line e = absurd (omega arith)
-is-some kind.Buffer e = absurd (omega arith)
-is-some kind.NoLine e = absurd (omega arith)
-is-some kind.Element e = absurd (omega arith)
-is-some kind.PictureLine e = absurd (omega arith)
-is-some kind.EightBits e = absurd (omega arith)
+is-some r e = grind arith
 
 -- ---- a step of the walker
 

@@ -8,7 +8,11 @@ use Rattle.danc.proofs.validate.Goals as goal
 pub returns-then-end-gt-LONGEST : goal.returns-then-end-gt-LONGEST
 unfolding limit
 returns-then-end-gt-LONGEST c y e w =
-    absurd (⊎_elim (λ h. omega (arith, w.short)) (λ g. ⊎_elim (λ h. omega (arith, w.place)) (λ h. omega (arith, w.packet)) g) c.then-end-gt-LONGEST.either)
+    absurd
+    (⊎_elim
+    (λ h. omega (arith, w.short))
+    (λ g. ⊎_elim (λ h. omega (arith, w.place)) (λ h. omega (arith, w.packet)) g)
+    c.then-end-gt-LONGEST.either)
 
 pub stop_of-requires : goal.stop_of-requires
 unfolding limit
