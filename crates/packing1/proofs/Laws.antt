@@ -145,16 +145,16 @@ module _ (words : List ℕ) (whole : 7 ≤ length words) where
 
 -- the words of a packet that stands in section C
 abbrev its_words : List ℕ → ℕ → ℕ → List ℕ
-its_words ws at dc = take (at + (dc + 7) - at) (drop at ws)
+its_words ws at dc = take (at + dc + 7 - at) (drop at ws)
 
 module _ (ws : List ℕ) (at dc : ℕ) (whole : at + (dc + 7) ≤ length ws) where
   its_words-length : length (its_words ws at dc) ≡ dc + 7
-  its_words-length = let d = length-drop at ws in length-take-le (at + (dc + 7) - at) (drop at ws) (omega arith) ∙ (omega arith)
+  its_words-length = let d = length-drop at ws in length-take-le (at + dc + 7 - at) (drop at ws) (omega arith) ∙ (omega arith)
 
   its_words-behind : drop 3 (its_words ws at dc) ≡ take (dc + 4) (drop (at + 3) ws)
   its_words-behind =
-      let n : at + (dc + 7) - at - 3 ≡ dc + 4 = omega arith in
-      drop-take 3 (at + (dc + 7) - at) (drop at ws) ∙ ap₂ take n (drop-drop 3 at ws)
+      let n : at + dc + 7 - at - 3 ≡ dc + 4 = omega arith in
+      drop-take 3 (at + dc + 7 - at) (drop at ws) ∙ ap₂ take n (drop-drop 3 at ws)
 
   its_dc : length (its_words ws at dc) - 7 ≡ dc
   its_dc = let l = its_words-length in omega arith

@@ -127,9 +127,10 @@ pub fn lay_fives(ls: &[u16], ws: &[u16], us: &mut [u8; 9360])
     let mut at = 0;
     let mut o = 0;
     for pair in ls.chunks_exact(2) {
-        let end = at + (low_byte(ws[at + 5]) + 7);
+        let dc = low_byte(ws[at + 5]);
         let line = Line(pair[0]);
-        o = lay_packet(&ws[at..end], head0(line), head1(line, pair[1]), us, o);
-        at = end;
+        let words = &ws[at..at + dc + 7];
+        o = lay_packet(words, head0(line), head1(line, pair[1]), us, o);
+        at += dc + 7;
     }
 }

@@ -15,31 +15,31 @@ bounds-ws-at c =
     let i = fives-inside w.so (omega (arith, p.within)) c.requires in
     omega (arith, i.0)
 
-pub slice_bounds-lay_packet-end : goal.slice_bounds-lay_packet-end
-slice_bounds-lay_packet-end c =
+pub slice_bounds-words-end : goal.slice_bounds-words-end
+slice_bounds-words-end c =
     let w = c.loop-pair.invariant.1 in
     let p = next-pair w _ _ c.in-Some.ensures.steps.1 in
     let i = fives-inside w.so (omega (arith, p.within)) c.requires in
-    omega (arith, i.0, c.low_byte.ensures)
+    omega (arith, i.0, c.low_byte-dc.ensures)
 
 pub lay_packet-o-requires : goal.lay_packet-o-requires
 lay_packet-o-requires c =
     let w = c.loop-pair.invariant.1 in
     let p = next-pair w _ _ c.in-Some.ensures.steps.1 in
-    let n = fives-next w.so (omega (arith, p.within)) c.requires c.low_byte.result c.low_byte.ensures in
+    let n = fives-next w.so (omega (arith, p.within)) c.requires c.low_byte-dc.result c.low_byte-dc.ensures in
     (omega (arith, n.long), n.room)
 
 pub loop-pair-preserved : goal.loop-pair-preserved
 loop-pair-preserved c =
     let w = c.loop-pair.invariant.1 in
     let p = next-pair w _ _ c.in-Some.ensures.steps.1 in
-    let n = fives-next w.so (omega (arith, p.within)) c.requires c.low_byte.result c.low_byte.ensures in (
+    let n = fives-next w.so (omega (arith, p.within)) c.requires c.low_byte-dc.result c.low_byte-dc.ensures in (
       n.inside,
       record {
         place = w.place + 2;
         is = p.after;
         two = c.in-Some.ensures.steps.0 ∙ w.two;
-        so = fives-turn w.so (omega (arith, p.within)) c.low_byte.ensures (c.head0.ensures ∙ ap head_byte0 p.line)
+        so = fives-turn w.so (omega (arith, p.within)) c.low_byte-dc.ensures (c.head0.ensures ∙ ap head_byte0 p.line)
             (c.head1.ensures ∙ ap₂ head_byte1 p.line p.flags) n.inside c.lay_packet-o.ensures;
       },
     )
