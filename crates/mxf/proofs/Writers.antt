@@ -1,8 +1,8 @@
 -- Writing an element, whatever its samples: the laws that every call rests on that writes one, each way through its code at a time. What such a
 -- call has of its own is its `Writer`.
 --
--- In order: a writer; parts of a buffer; which packets are served; the bytes of structures; the measure; the structures; the element; 18 and 17;
--- the tests of a sheet; what is written.
+-- In order: sizes; the packets that are left; the words that are lent; parts of a buffer; which packets are served; the bytes of structures; the
+-- measure; the structures; the element; 18 and 17; the tests of a sheet; what is written.
 -- Assumes nothing.
 use Prim.Native.Nat.{ℕ, suc, ◌+◌, ◌-◌, ◌*◌, ◌≤◌, ◌<◌}
 use mathlib.Core.Path.{◌≡◌, refl, sym, ap, ap₂, ◌∙◌, subst}
@@ -12,61 +12,126 @@ use native.Mathlib.Omega.{arith}
 use native.Mathlib.Numerals.{add-one}
 use lib.Dec.{eqb, leb}
 use lib.ListN.{length, get_or, take, drop, length-append, length-drop, length-map, drop_of_length-le}
-use lib.Seq.{sets, take_at, take_all}
+use lib.Seq.{sets, take_at, take_all, drop-drop, length-take-le}
+use Rattle.std.proofs.lemmas.List.{take-append-le}
 use borrow.Author.Tests.{le-leb, lt-leb, leb-true, eq-eqb, ne_eqb, eqb-false}
 use Rattle.rules.specs.Base.{joined, All, none, one}
 use Rattle.rules.specs.Systems.{System, system}
-use Rattle.rules.specs.Packet.{Packet}
+use Rattle.rules.specs.Packet.{Packet, words, coded, check_of}
 use Rattle.rules.specs.Danc.{bytes_of}
-use Rattle.rules.specs.Sheet.{limit, sheet_of, system_in, locations_in, words_in}
+use Rattle.rules.specs.Sheet.{limit, all_words, sheet_of, system_in, locations_in, words_in}
 use Rattle.rules.specs.Numbers.{Outcome, listed, refused, unless, and_then}
 use Rattle.rules.specs.Laying.{low}
+use Rattle.rules.specs.Refusals.{number}
+use Rattle.rules.specs.declared.Refusal.{Refusal}
+use Rattle.rules.specs.declared.Refusal.TheVariants.{
+  Packing,
+  Shape,
+  System as SystemRefused,
+  AreaLength,
+  PacketLimit,
+  Location,
+  Flag,
+  Word,
+  CutOff,
+  Checksum,
+  PacketCount,
+  Room,
+  Packs,
+  Length,
+  StoredChecksum,
+  Line,
+  Buffer,
+  NoLine,
+  Element,
+  PictureLine,
+  EightBits,
+}
 use Rattle.rules.proofs.Basics.{never, sets-front, rest_part}
+use Rattle.rules.proofs.Words.{coded-length}
 use Rattle.rules.proofs.Sheets.{system-back}
 use Rattle.sheet.proofs.Filling.{part-kept, part-front}
-use Rattle.sections.proofs.Laws.{LeftBy, left-none-by, NextBy, next-of-by, next-inside-by}
-use Rattle.mxf.specs.Element.{two, three, key, klv}
+use Rattle.sections.proofs.Laws.{LeftBy, NextBy, next-of-by, next-inside-by}
+use Rattle.mxf.specs.Element.{two, three, key, klv, wrapping, Coding, eight, ten}
+use Rattle.mxf.specs.Judging.{others, array_for}
 use Rattle.mxf.specs.Served.{serves, served}
 use Rattle.mxf.specs.Writing.{lined, export, with_room_for, written_by, written_with, laid_by}
+use Rattle.mxf.specs.Writer.{source_by, structure_of, size_by, Writer}
 use Rattle.mxf.specs.Demands.{Lined, Unwritten}
 use Rattle.mxf.specs.declared.ElementWritten.{ElementWritten}
 use Rattle.mxf.proofs.Exporting.{served-sound, served-few}
 
--- ---- a writer
+-- ---- sizes
 
-pub record Writer : Type 1 where
-  -- of which packets numbers are the sections B and C, and what is known of each of them
-  pub Of : System → List Packet → List ℕ → List ℕ → Type 0
-  pub Fine : System → Packet → Type 0
-  pub all : (y : System) (ps : List Packet) (ls ws : List ℕ) → Of y ps ls ws → LeftBy (Fine y) ls ws 0 0 ps
-  pub many : (y : System) (p : Packet) → Fine y p → length p.user < 256
-  -- the structure of a packet, and how many bytes it has by DC
-  pub Item : Type 0
-  pub item : Packet → Item
-  pub bytes : ℕ → Item → List ℕ
-  pub size : ℕ → ℕ
-  pub sized : (sys : ℕ) (p : Packet) → length (bytes sys (item p)) ≡ size (length p.user)
-  pub slight : (dc : ℕ) → size dc ≤ 22 + 3 * dc
-  -- the element of a list
-  pub make : ℕ → List Packet → List ℕ
-  pub made : (sys : ℕ) (ps : List Packet) → make sys ps ≡ klv (two (length (map item ps)) ++ joined (bytes sys) (map item ps))
-  -- the sheet of a list, and its sections
-  pub Sheet : ℕ → List Packet → List ℕ → Type 0
-  pub few : (sys : ℕ) (ps : List Packet) (s : List ℕ) → Sheet sys ps s → length ps ≤ limit
-  pub whole : (sys : ℕ) (ps : List Packet) (s : List ℕ) → Sheet sys ps s → s ≡ sheet_of sys ps
-  pub sections : (sys : ℕ) (ps : List Packet) (s ls ws : List ℕ) → ls ≡ locations_in s → ws ≡ words_in s → Sheet sys ps s
-      → Of (system sys) ps ls ws
-  pub unique : (sys other : ℕ) (ps qs : List Packet) (s : List ℕ) → Sheet sys ps s → Sheet other qs s → (sys ≡ other) × (ps ≡ qs)
-  -- the tests of a sheet
-  pub tests : List ℕ → Outcome
-  pub read : (sys : ℕ) (ps : List Packet) (s : List ℕ) → Sheet sys ps s → tests s ≡ listed ps
-  pub laid : (s : List ℕ) (ps : List Packet) → tests s ≡ listed ps → Sheet (system_in s) ps s
-  pub refuses : (s : List ℕ) (n i : ℕ) → tests s ≡ refused n i → 1 ≤ n
-  -- the word that a refusal names: 18 and 17 name none
-  pub word : List ℕ → Outcome → ℕ
-  pub word_none : (ws : List ℕ) (ps : List Packet) → word ws (listed ps) ≡ 0
-  pub word-18 : (ws : List ℕ) (i : ℕ) → word ws (refused 18 i) ≡ 0
-  pub word-17 : (ws : List ℕ) (i : ℕ) → word ws (refused 17 i) ≡ 0
+-- a packet has 348 bytes of samples at most
+pub array-few : (c : Coding) (n : ℕ) → n ≤ 259 → array_for c n ≤ 348
+array-few eight n h = omega arith
+array-few ten n h = omega arith
+
+slight : (c : Coding) (dc : ℕ) → size_by c dc ≤ 22 + 3 * dc
+slight eight dc = omega arith
+slight ten dc = omega arith
+
+pub others-few : (c : Coding) → (3 ≤ others c) × (others c ≤ 4)
+others-few eight = (omega arith, omega arith)
+others-few ten = (omega arith, omega arith)
+
+-- ---- the packets that are left
+
+all-left : (w : Writer) (y : System) (ps : List Packet) (ls ws : List ℕ) → w.Of y ps ls ws → LeftBy (w.Fine y) ls ws 0 0 ps
+all-left w y ps ls ws h = record { each = w.each y ps ls ws h; pairs = w.section_b y ps ls ws h; there = w.section_c y ps ls ws h }
+
+-- where there is no further pair
+left-none-pair : (P : Packet → Type 0) (ls ws : List ℕ) (k at : ℕ) (left : List Packet) → LeftBy P ls ws k at left → length ls < k + 2 → left ≡ []
+left-none-pair P ls ws k at [] l h = refl
+left-none-pair P ls ws k at (p ∷ qs) l h = absurd (let d = length-drop k ls in let m = ap length l.pairs in omega arith)
+
+-- ---- the words that are lent
+
+source_by-length : (c : Coding) (p : Packet) → length (source_by c p) ≡ length p.user + others c
+unfolding words
+source_by-length c p =
+    let k = others-few c in
+    let l = coded-length p in
+    let m = length-append (coded p) (check_of p ∷ []) in
+    length-take-le (length p.user + others c) (coded p ++ check_of p ∷ []) (omega arith)
+
+-- for the next packet, and what its structure is
+module _ (w : Writer) {y : System} {ls ws : List ℕ} {k at : ℕ} {left : List Packet} (n : NextBy (w.Fine y) ls ws k at left) {dc from end : ℕ}
+    (size : dc ≡ low (get_or ws (at + 5) 0)) (ef : from ≡ at + 3) (ee : end ≡ from + (dc + others w.coding)) where
+  source-next : take (end - from) (drop from ws) ≡ source_by w.coding n.packet
+  unfolding words
+  source-next =
+      let p : Packet = n.packet in
+      let d : dc ≡ length p.user = size ∙ n.dc in
+      let m : end - from ≡ length p.user + others w.coding = omega arith in
+      let k = others-few w.coding in
+      let l = coded-length p in
+      let a = length-append (coded p) (check_of p ∷ []) in
+      ap₂ (λ (m i : ℕ). take m (drop i ws)) m ef
+      ∙ ap (take (length p.user + others w.coding)) (sym (drop-drop 3 at ws) ∙ ap (drop 3) n.there)
+      ∙ take-append-le (length p.user + others w.coding) (coded p ++ check_of p ∷ []) (all_words n.rest) (omega arith)
+
+  pub lent-fits : w.fits (take (end - from) (drop from ws))
+  lent-fits = rw source-next (w.fitting y n.packet n.fine)
+
+  pub lent-few : length (take (end - from) (drop from ws)) ≤ 259
+  lent-few =
+      let l = ap length source-next ∙ source_by-length w.coding n.packet in
+      let k = others-few w.coding in
+      let m = w.many y n.packet n.fine in
+      omega arith
+
+  pub lent-array : length (w.array (take (end - from) (drop from ws))) ≡ array_for w.coding (dc + others w.coding)
+  lent-array =
+      let d : dc ≡ length n.packet.user = size ∙ n.dc in
+      w.array_long (take (end - from) (drop from ws))
+      ∙ ap (array_for w.coding) (ap length source-next ∙ source_by-length w.coding n.packet ∙ ap (λ (m : ℕ). m + others w.coding) (sym d))
+
+  pub structure-next : (sys : ℕ) {wr : ℕ} {ys : List ℕ} → wr ≡ wrapping sys
+      → ys ≡ structure_of w.coding w.array (get_or ls k 0) wr (get_or ls (k + 1) 0) (take (end - from) (drop from ws))
+      → ys ≡ w.bytes sys (w.item n.packet)
+  structure-next sys ew ey = ey ∙ rw (ew, n.line, n.flags, source-next) (w.laid_as sys y n.packet n.fine)
 
 -- ---- parts of a buffer
 
@@ -145,7 +210,7 @@ structures_by w sys ps = joined (w.bytes sys) (map w.item ps)
 
 module _ (w : Writer) (sys : ℕ) where
   structures-length : (p : Packet) (ps : List Packet)
-      → length (structures_by w sys (p ∷ ps)) ≡ w.size (length p.user) + length (structures_by w sys ps)
+      → length (structures_by w sys (p ∷ ps)) ≡ size_by w.coding (length p.user) + length (structures_by w sys ps)
   structures-length p ps =
       let a = length-append (w.bytes sys (w.item p)) (structures_by w sys ps) in
       let b = w.sized sys p in
@@ -162,7 +227,7 @@ module _ (w : Writer) (sys : ℕ) where
       let h = structures-short y ps gs in
       let k = structures-length p ps in
       let m = w.many y p g in
-      let l = w.slight (length p.user) in
+      let l = slight w.coding (length p.user) in
       omega arith
 
 -- ---- the measure
@@ -182,7 +247,7 @@ pub record Measuring (w : Writer) (sys : ℕ) (fi : Bool) (ls ws : List ℕ) (k 
 
 pub measure-begin : {w : Writer} {sys : ℕ} {fi : Bool} {ls ws : List ℕ} → Measuring w sys fi ls ws 0 0 0 22
 measure-begin {w} {sys} {fi} {ls} {ws} = record {
-  of = λ y ps h. record { left = ps; is = w.all y ps ls ws h; lines = λ o. refl; count = omega arith; size = refl };
+  of = λ y ps h. record { left = ps; is = all-left w y ps ls ws h; lines = λ o. refl; count = omega arith; size = refl };
   few = omega arith;
   short = omega arith;
 }
@@ -192,13 +257,13 @@ module _ {w : Writer} {sys : ℕ} {fi : Bool} {ls ws : List ℕ} {k at packets b
   Answer r = (y : System) (ps : List Packet) → w.Of y ps ls ws → r ≡ written_by (w.make sys) (export sys fi ps)
 
   -- all are measured
-  pub measure-done : length ls ≤ 2 * k → Answer (record { number = 0; place = 0; word = 0; packets = packets; bytes = bytes })
+  pub measure-done : length ls < 2 * k + 2 → Answer (record { number = 0; place = 0; word = 0; packets = packets; bytes = bytes })
   measure-done end y ps h = go (so.of y ps h)
     where
       go : MeasureLeft w sys fi y ps ls ws k at packets bytes
           → record { number = 0; place = 0; word = 0; packets = packets; bytes = bytes } ≡ written_by (w.make sys) (export sys fi ps)
       go f =
-          let n : f.left ≡ [] = left-none-by (w.Fine y) ls ws (2 * k) at f.left f.is (omega arith) in
+          let n : f.left ≡ [] = left-none-pair (w.Fine y) ls ws (2 * k) at f.left f.is (omega arith) in
           let e : export sys fi ps ≡ listed (served sys fi ps) =
           f.lines (listed (served sys fi ps)) ∙ ap (λ (t : List Packet). lined sys fi k t (listed (served sys fi ps))) n in
           let c : packets ≡ length (served sys fi ps) =
@@ -236,12 +301,12 @@ module _ {w : Writer} {sys : ℕ} {fi : Bool} {ls ws : List ℕ} {k at packets b
               e ∙ ap (written_by (w.make sys)) (sym x)
 
       -- one that is served, and has a line
-      pub measure-taken : {packets₁ bytes₁ : ℕ} → b ≡ true → (get_or ls (2 * k) 0 ≡ 0 → ⊥) → packets₁ ≡ packets + 1 → bytes₁ ≡ bytes + w.size dc
+      pub measure-taken : {packets₁ bytes₁ : ℕ} → b ≡ true → (get_or ls (2 * k) 0 ≡ 0 → ⊥) → packets₁ ≡ packets + 1 → bytes₁ ≡ bytes + size_by w.coding dc
           → Measuring w sys fi ls ws (k + 1) (at + (dc + 7)) packets₁ bytes₁
       measure-taken {packets₁} {bytes₁} t z ep eb = record {
         of = λ y ps h. go y ps (so.of y ps h) (measure-next y ps h);
         few = let m = so.few in omega arith;
-        short = let m = so.short in let l = w.slight dc in omega arith;
+        short = let m = so.short in let l = slight w.coding dc in omega arith;
       }
         where
           go : (y : System) (ps : List Packet) (f : MeasureLeft w sys fi y ps ls ws k at packets bytes)
@@ -255,10 +320,10 @@ module _ {w : Writer} {sys : ℕ} {fi : Bool} {ls ws : List ℕ} {k at packets b
               let d : dc ≡ length p.user = size ∙ n.dc in
               let turn : 2 * (k + 1) ≡ 2 * k + 2 = omega arith in
               let c : length (served sys fi f.left) ≡ suc (length (served sys fi qs)) = ap length v in
-              let l : length (structures_by w sys (served sys fi f.left)) ≡ w.size dc + length (structures_by w sys (served sys fi qs)) =
+              let l : length (structures_by w sys (served sys fi f.left)) ≡ size_by w.coding dc + length (structures_by w sys (served sys fi qs)) =
               ap (λ (rs : List Packet). length (structures_by w sys rs)) v
               ∙ structures-length w sys p (served sys fi qs)
-              ∙ ap (λ (m : ℕ). w.size m + length (structures_by w sys (served sys fi qs))) (sym d) in
+              ∙ ap (λ (m : ℕ). size_by w.coding m + length (structures_by w sys (served sys fi qs))) (sym d) in
               record {
                 left = qs;
                 is = rw (turn, d) n.after;
@@ -317,19 +382,19 @@ RoomFor w sys fi ls ws out =
 pub structures-begin : {w : Writer} {sys : ℕ} {fi : Bool} {ls ws out : List ℕ} → RoomFor w sys fi ls ws out
     → Structures w sys fi ls ws out 0 0 0
 structures-begin {w} {sys} {fi} {ls} {ws} {out} room = record {
-  of = λ y ps h. record { left = ps; is = w.all y ps ls ws h; room = (let r = room y ps h in omega arith); laid = refl };
+  of = λ y ps h. record { left = ps; is = all-left w y ps ls ws h; room = (let r = room y ps h in omega arith); laid = refl };
 }
 
 module _ {w : Writer} {sys : ℕ} {fi : Bool} {ls ws out : List ℕ} {k at o : ℕ} (so : Structures w sys fi ls ws out k at o) where
   -- all are laid
-  pub structures-done : length ls ≤ 2 * k → (y : System) (ps : List Packet) → w.Of y ps ls ws → out ≡ structures_by w sys (served sys fi ps)
+  pub structures-done : length ls < 2 * k + 2 → (y : System) (ps : List Packet) → w.Of y ps ls ws → out ≡ structures_by w sys (served sys fi ps)
   structures-done end y ps h = go (so.of y ps h)
     where
       go : StructuresLeft w sys fi y ps ls ws out k at o → out ≡ structures_by w sys (served sys fi ps)
       go f =
           let n : structures_by w sys (served sys fi f.left) ≡ [] =
           ap (λ (t : List Packet). structures_by w sys (served sys fi t))
-          (left-none-by (w.Fine y) ls ws (2 * k) at f.left f.is (omega arith)) in
+          (left-none-pair (w.Fine y) ls ws (2 * k) at f.left f.is (omega arith)) in
           let l : length (structures_by w sys (served sys fi f.left)) ≡ 0 = ap length n in
           let r = f.room in
           sym (take_all o out (omega arith))
@@ -356,28 +421,28 @@ module _ {w : Writer} {sys : ℕ} {fi : Bool} {ls ws out : List ℕ} {k at o : �
         taken_next : (y : System) (ps : List Packet) (f : StructuresLeft w sys fi y ps ls ws out k at o)
             (n : NextBy (w.Fine y) ls ws (2 * k) at f.left)
             → (served sys fi f.left ≡ n.packet ∷ served sys fi n.rest)
-            × (o + w.size dc + length (structures_by w sys (served sys fi n.rest)) ≡ length out)
+            × (o + size_by w.coding dc + length (structures_by w sys (served sys fi n.rest)) ≡ length out)
         taken_next y ps f n =
             let p : Packet = n.packet in
             let qs : List Packet = n.rest in
             let s : serves sys fi p.flags ≡ true = ap (serves sys fi) (sym n.flags) ∙ sym is ∙ t in
             let v : served sys fi f.left ≡ p ∷ served sys fi qs = ap (served sys fi) n.is ∙ served-taken sys fi p qs s in
             let d : dc ≡ length p.user = size ∙ n.dc in
-            let l : length (structures_by w sys (served sys fi f.left)) ≡ w.size dc + length (structures_by w sys (served sys fi qs)) =
+            let l : length (structures_by w sys (served sys fi f.left)) ≡ size_by w.coding dc + length (structures_by w sys (served sys fi qs)) =
             ap (λ (rs : List Packet). length (structures_by w sys rs)) v
             ∙ structures-length w sys p (served sys fi qs)
-            ∙ ap (λ (m : ℕ). w.size m + length (structures_by w sys (served sys fi qs))) (sym d) in
+            ∙ ap (λ (m : ℕ). size_by w.coding m + length (structures_by w sys (served sys fi qs))) (sym d) in
             let r = f.room in
             (v, omega arith)
 
         -- there is room for its structure
-        pub structures-room : (y : System) (ps : List Packet) → w.Of y ps ls ws → o + w.size dc ≤ length out
+        pub structures-room : (y : System) (ps : List Packet) → w.Of y ps ls ws → o + size_by w.coding dc ≤ length out
         structures-room y ps h = let e = (taken_next y ps (so.of y ps h) (structures-next y ps h)).1 in omega arith
 
         -- one structure more: what was laid is that of the next packet
         pub structures-taken : {at₁ next o₁ : ℕ} {ys out₁ : List ℕ} → at₁ ≡ at + (dc + 7)
             → ((y : System) (left : List Packet) (n : NextBy (w.Fine y) ls ws (2 * k) at left) → ys ≡ w.bytes sys (w.item n.packet))
-            → out₁ ≡ take o out ++ (ys ++ drop (next - o) (drop o out)) → o₁ ≡ next → next ≡ o + w.size dc
+            → out₁ ≡ take o out ++ (ys ++ drop (next - o) (drop o out)) → o₁ ≡ next → next ≡ o + size_by w.coding dc
             → length ys ≡ length (take (next - o) (drop o out))
             → Structures w sys fi ls ws out₁ (k + 1) at₁ o₁
         structures-taken {at₁} {next} {o₁} {ys} {out₁} ea ey eo e₁ en kept = record {
@@ -395,7 +460,7 @@ module _ {w : Writer} {sys : ℕ} {fi : Bool} {ls ws out : List ℕ} {k at o : �
                 let e : at₁ ≡ at + bytes_of p = omega arith in
                 let turn : 2 * (k + 1) ≡ 2 * k + 2 = omega arith in
                 let z : ys ≡ w.bytes sys (w.item p) = ey y f.left n in
-                let l : length ys ≡ w.size dc = ap length z ∙ w.sized sys p ∙ ap w.size (sym d) in
+                let l : length ys ≡ size_by w.coding dc = ap length z ∙ w.sized sys p ∙ ap (size_by w.coding) (sym d) in
                 let r = v.1 in
                 let q = f.room in
                 let m = structures-kept ys eo e₁ kept in
@@ -485,6 +550,30 @@ refused-first : (make : List Packet → List ℕ) (buffer : List ℕ) (o : Outco
 refused-first make buffer (listed ps) r e n = absurd (n (ap (λ (x : ElementWritten). x.number) e))
 refused-first make buffer (refused m i) r e n = (e, refl)
 
+-- a refusal has a number
+pub number-some : (r : Refusal) → number r ≡ 0 → ⊥
+number-some Packing e = absurd (omega arith)
+number-some Shape e = absurd (omega arith)
+number-some SystemRefused e = absurd (omega arith)
+number-some AreaLength e = absurd (omega arith)
+number-some PacketLimit e = absurd (omega arith)
+number-some Location e = absurd (omega arith)
+number-some Flag e = absurd (omega arith)
+number-some Word e = absurd (omega arith)
+number-some CutOff e = absurd (omega arith)
+number-some Checksum e = absurd (omega arith)
+number-some PacketCount e = absurd (omega arith)
+number-some Room e = absurd (omega arith)
+number-some Packs e = absurd (omega arith)
+number-some Length e = absurd (omega arith)
+number-some StoredChecksum e = absurd (omega arith)
+number-some Line e = absurd (omega arith)
+number-some Buffer e = absurd (omega arith)
+number-some NoLine e = absurd (omega arith)
+number-some Element e = absurd (omega arith)
+number-some PictureLine e = absurd (omega arith)
+number-some EightBits e = absurd (omega arith)
+
 -- from the sections of a sheet, and what is measured of them
 module _ (w : Writer) (sys : ℕ) (fi : Bool) (s buffer : List ℕ) {ls ws : List ℕ} (b : ls ≡ locations_in s) (c : ws ≡ words_in s) (m : ElementWritten)
     (e : (y : System) (ps : List Packet) → w.Of y ps ls ws → m ≡ written_by (w.make sys) (export sys fi ps)) where
@@ -525,7 +614,7 @@ module _ (w : Writer) (sys : ℕ) (fi : Bool) (s buffer : List ℕ) {ls ws : Lis
         let a = measured (system sys) ps v in
         let f = w.few sys ps s h in
         let k = (served-few sys fi ps).0 in
-        let g = served-sound sys fi (w.Fine (system sys)) ps (w.all (system sys) ps ls ws v).each in
+        let g = served-sound sys fi (w.Fine (system sys)) ps (w.each (system sys) ps ls ws v) in
         let l = structures-short w sys (system sys) (served sys fi ps) g in
         let r = element-length w sys (served sys fi ps) in
         (let g = a.0 in omega arith, let g = a.1 in omega arith)

@@ -8,7 +8,7 @@ use mathlib.Core.Bool.{Bool}
 use mathlib.Core.List.{List, [], ◌∷◌, ◌++◌, map, append_assoc, append-nil}
 use native.Mathlib.Omega.{arith}
 use native.Mathlib.Numerals.{add-one}
-use lib.ListN.{length, get_or, take, drop, set, drop_of_length-le, take-append-drop}
+use lib.ListN.{length, get_or, take, drop, set, drop_of_length-le, take-append-drop, length-map}
 use lib.Seq.{sets, sets-eq, length-sets, drop-cons, drop-drop, take_at}
 use Rattle.rules.specs.Base.{joined}
 use Rattle.rules.specs.Systems.{System}
@@ -24,14 +24,15 @@ use Rattle.rules.proofs.Words.{body_bytes, coded-length, coded-low}
 use Rattle.rules.proofs.Lister.{sheet-refused}
 use Rattle.rules.proofs.Sheets.{Sixteen, sheet-read, sheet-laid, sheet-unique}
 use Rattle.sections.specs.Sections.{SectionsOf}
-use Rattle.sections.proofs.Laws.{sections-of, left-all, Next}
-use Rattle.mxf.specs.Element.{two, three, four, key, wrapping, coding, Padded, bare, samples, structure, value, klv, element, element_of}
+use Rattle.sections.proofs.Laws.{sections-of}
+use Rattle.mxf.specs.Element.{two, three, four, key, wrapping, eight, coding, Padded, bare, samples, structure, value, klv, element, element_of}
+use Rattle.mxf.specs.Eights.{eights}
 use Rattle.mxf.specs.Writing.{writing, write, element_after}
 use Rattle.mxf.specs.Demands.{Writes}
 use Rattle.mxf.specs.declared.ElementWritten.{ElementWritten}
 use Rattle.mxf.proofs.Elements.{structure-length}
 use Rattle.mxf.proofs.Exporting.{comes_back_lem}
-use Rattle.mxf.proofs.Writers.{Writer, Named, Answered, unwritten, sent-written, sent-only, sent_back}
+use Rattle.mxf.proofs.Writers.{Named, Answered, unwritten, sent-written, sent-only, sent_back}
 
 -- ---- stores from the front
 
@@ -104,34 +105,6 @@ fields-put line w c n m out h e1 e2 e3 e4 e5 e6 =
     ∙ ap (λ (t : List ℕ). sets t 12 (two 1)) f5
     ∙ ap (λ (t : List ℕ). sets out 0 (two line ++ w ∷ c ∷ two n ++ t ++ four 1)) (four-halves m h)
 
--- the words from DID to the last user word
-coded-there : (p : Packet) (r ws : List ℕ) (at n : ℕ) → drop at ws ≡ words p ++ r → n ≡ length p.user + 3 → take n (drop (at + 3) ws) ≡ coded p
-unfolding words
-coded-there p r ws at n e h =
-    let d : drop (at + 3) ws ≡ (coded p ++ check_of p ∷ []) ++ r = sym (drop-drop 3 at ws) ∙ ap (drop 3) e in
-    ap (take n) (d ∙ append_assoc (coded p) (check_of p ∷ []) r) ∙ take_at (coded p) (check_of p ∷ r) n (coded-length p ∙ sym h)
-
--- as `put_structure` gives it
-abbrev structure_of : ℕ → ℕ → ℕ → List ℕ → List ℕ
-structure_of line w flags s = two line ++ w ∷ coding flags ∷ two (length s) ++ four (length s) ++ four 1 ++ map low s
-
-structure-is : (sys : ℕ) (y : System) (p : Packet) → Sound y p → structure_of p.line (wrapping sys) p.flags (coded p) ≡ structure sys (bare p)
-unfolding structure
-structure-is sys y p g =
-    let n : samples p + 0 ≡ samples p = omega arith in
-    rw (n, coded-length p, coded-low p (body_bytes y p g), append-nil p.user)
-
--- so it is that of the next packet
-pub structure-next : (sys k : ℕ) {ls ws ys : List ℕ} {at dc end w : ℕ} → dc ≡ low (get_or ws (at + 5) 0) → w ≡ wrapping sys → end ≡ at + (dc + 6)
-    → ys ≡ structure_of (get_or ls (2 * k) 0) w (get_or ls (2 * k + 1) 0) (take (end - (at + 3)) (drop (at + 3) ws))
-    → (y : System) (left : List Packet) (n : Next y ls ws (2 * k) at left) → ys ≡ structure sys (bare n.packet)
-structure-next sys k {ls} {ws} {ys} {at} {dc} {end} {w} size ew ee ey y left n =
-    let p : Packet = n.packet in
-    let d : dc ≡ length p.user = size ∙ n.dc in
-    let s : take (end - (at + 3)) (drop (at + 3) ws) ≡ coded p =
-    coded-there p (all_words n.rest) ws at (end - (at + 3)) n.there (omega arith) in
-    ey ∙ rw (ew, n.line, n.flags, s) (structure-is sys y p n.fine)
-
 -- ---- the head
 
 -- the length in three bytes, of which the low two are stored as one number
@@ -154,49 +127,6 @@ head-put packets v out {o1} {o2} {o3} room short ev e1 e2 e3 n long =
     sym (take-append-drop 22 o3)
     ∙ ap₂ (λ (a b : List ℕ). a ++ b) f3.stored f3.behind
     ∙ ap (λ (t : List ℕ). (key ++ 0x83 ∷ t ++ two packets) ++ drop 22 out) e
-
--- ---- the writer
-
-pub element-made : (sys : ℕ) (ps : List Packet) → element_of sys ps ≡ klv (two (length (map bare ps)) ++ joined (structure sys) (map bare ps))
-unfolding element value
-element-made sys ps = refl
-
-pub structure-sized : (sys : ℕ) (p : Packet) → length (structure sys (bare p)) ≡ 14 + length p.user + 3
-structure-sized sys p = let b = structure-length sys (bare p) in omega arith
-
-pub word_none : (ws : List ℕ) (i : ℕ) → (word_in ws (refused 18 i) ≡ 0) × (word_in ws (refused 17 i) ≡ 0)
-unfolding word_at
-word_none ws i = (refl, refl)
-
--- sound packets, in samples of 8 bits
-abbrev pub eights : Writer
-eights = record {
-  Of = SectionsOf;
-  Fine = Sound;
-  all = λ y ps ls ws h. left-all y ls ws ps h;
-  many = λ y p g. g.many;
-  Item = Padded;
-  item = bare;
-  bytes = structure;
-  size = λ (dc : ℕ). 14 + dc + 3;
-  sized = structure-sized;
-  slight = λ dc. omega arith;
-  make = element_of;
-  made = element-made;
-  Sheet = SheetOf;
-  few = λ sys ps s g. g.few;
-  whole = λ sys ps s g. g.whole;
-  sections = λ sys ps s ls ws b c g. sections-of b c g;
-  unique = sheet-unique;
-  tests = sheet_tests;
-  read = sheet-read;
-  laid = sheet-laid;
-  refuses = sheet-refused;
-  word = word_in;
-  word_none = λ ws ps. refl;
-  word-18 = λ ws i. (word_none ws i).0;
-  word-17 = λ ws i. (word_none ws i).1;
-}
 
 -- ---- the lister's tests
 

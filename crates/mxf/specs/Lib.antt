@@ -8,6 +8,8 @@
 --   Reading    the tests of an element, and what reading gives back
 --   Demands    the contracts of the two calls
 --   Figures    elements written out by hand
+--   Writer     how the packets of a sheet are written in samples of one coding
+--   Eights     the writer of 8-bit samples
 --   Parts      what the functions of this crate promise each other
 pub mod Element
 pub mod Served
@@ -16,4 +18,6 @@ pub mod Judging
 pub mod Reading
 pub mod Demands
 pub mod Figures
+pub mod Writer
+pub mod Eights
 pub mod Parts

@@ -7,11 +7,13 @@ ghost use Rattle.mxf.specs.Element.{wrapping as wrappingOf};
 
 mod judging;
 mod reading;
+mod samples;
 mod writing;
 
 pub use judging::{four, front_fault, head_fault, two};
 pub use reading::{allowed, read, write_locations};
-pub use writing::{put_fields, put_head, serves, write};
+pub use samples::{Eight, Samples};
+pub use writing::{Measured, tell, write, write_list};
 
 // 004, table 6.
 const KEY: [u8; 16] = [

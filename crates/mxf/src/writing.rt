@@ -5,30 +5,45 @@ ghost use Rattle.std.proofs.lemmas.List.Edits.{sets};
 ghost use Rattle.rules.specs.Base.{joined};
 ghost use Rattle.rules.specs.Systems.{System};
 ghost use Rattle.rules.specs.Packet.{Packet};
-ghost use Rattle.rules.specs.Numbers.{refused};
-ghost use Rattle.rules.specs.Laying.{low};
-ghost use Rattle.rules.specs.Demands.{SheetOf};
-ghost use Rattle.sections.specs.Sections.{SectionsOf, Sections};
-ghost use Rattle.mxf.specs.Element.{two, three, four, key, coding, bare, structure, element_of};
+ghost use Rattle.mxf.specs.Element.{two, three, four, key, coding_of};
 ghost use Rattle.mxf.specs.Served.{serves as servesFlags, served};
-ghost use Rattle.mxf.specs.Writing.{export, with_room, written_of, written_with, element_in};
+ghost use Rattle.mxf.specs.Writing.{export, with_room_for, written_by, laid_by};
+ghost use Rattle.mxf.specs.Writer.{structure_of, SectionsBy, told_written};
 ghost use Rattle.mxf.specs.Demands.{Writes};
 
 use crate::ElementWritten;
+use crate::samples::{Eight, Samples};
 use frame::Line;
-use packet::{low, low_byte};
+use packet::low_byte;
+use rules::{Refusal, Refused};
 use sections::{section_b, section_c};
 
-// On refusal the later figures are 0. The word is the one that the lister's tests name (document 02, A2).
-fn refusal(number: u64, place: u64, word: u64) -> ElementWritten
-    ensures { result ≡ written_with word (written_of 0 (refused number place)) }
+// How many packets are served, and the bytes of their element.
+#[derive(Clone, Copy)]
+pub struct Measured {
+    pub packets: u64,
+    pub bytes: usize,
+}
+
+// On refusal the later figures are 0. The word is the one that the tests of the sheet name (document 02, A2).
+pub fn tell(r: Result<Measured, Refused>) -> ElementWritten
+    ensures { result ≡ told_written r }
 {
-    ElementWritten {
-        number,
-        place,
-        word,
-        packets: 0,
-        bytes: 0,
+    match r {
+        Ok(m) => ElementWritten {
+            number: 0,
+            place: 0,
+            word: 0,
+            packets: m.packets,
+            bytes: m.bytes as u64,
+        },
+        Err(e) => ElementWritten {
+            number: e.refusal.number(),
+            place: e.place as u64,
+            word: e.word as u64,
+            packets: 0,
+            bytes: 0,
+        },
     }
 }
 
@@ -45,48 +60,31 @@ pub fn serves(system: u64, fi: bool, flags: u16) -> bool
     flags % 2 == 0
 }
 
-// 18, "for one served without a line": its number in the sheet. Or how many packets are served, and the bytes of their element: a packet
-// of DC + 7 words has DC + 3 samples.
-fn measure(system: u64, fi: bool, ls: &[u16], ws: &[u16]) -> ElementWritten
-    requires { Sections ls.now ws.now }
-    ensures { (y : System) (ps : List Packet) → SectionsOf y ps ls.now ws.now
-        → result ≡ written_of system (export system fi ps) }
+// 18, "for one served without a line": its number in the sheet. Or how many packets are served, and the bytes of their element.
+fn measure<S: Samples>(system: u64, fi: bool, ls: &[u16], ws: &[u16]) -> Result<Measured, Refused>
+    requires { SectionsBy S.writer ls.now ws.now }
+    ensures { (y : System) (ps : List Packet) → S.writer.Of y ps ls.now ws.now
+        → told_written result ≡ written_by (S.writer.make system) (export system fi ps) }
 {
-    let mut k = 0;
     let mut at = 0;
     let mut packets: u64 = 0;
     let mut bytes = crate::HEAD;
-    while 2 * k < ls.len() {
+    for k in 0..ls.len() / 2 {
         let dc = low_byte(ws[at + 5]);
         if serves(system, fi, ls[2 * k + 1]) {
             if ls[2 * k] == 0 {
-                return refusal(18, k as u64, 0);
+                return Err(Refused {
+                    refusal: Refusal::NoLine,
+                    place: k,
+                    word: 0,
+                });
             }
             packets += 1;
-            bytes += crate::FIELDS + dc + 3;
+            bytes += crate::FIELDS + S::array_bytes(dc + S::OTHERS);
         }
         at += dc + 7;
-        k += 1;
     }
-    ElementWritten {
-        number: 0,
-        place: 0,
-        word: 0,
-        packets,
-        bytes: bytes as u64,
-    }
-}
-
-// The samples of words, "from DID to the last user word, without CS": "The low-order 8-bits from the source ANC packet" (004, 7.2).
-fn put_samples(ws: &[u16], out: &mut [u8])
-    requires { length out.old ≡ length ws.now }
-    ensures { out.new ≡ map low ws.now }
-{
-    let mut i = 0;
-    while i < ws.len() {
-        out[i] = low(ws[i]);
-        i += 1;
-    }
+    Ok(Measured { packets, bytes })
 }
 
 // A number of 16 bits, high byte first (004, 5.4).
@@ -99,13 +97,13 @@ fn put_two(out: &mut [u8], at: usize, n: u16)
 }
 
 // 001, figure 6: YCF 1 is luma. Flags: "bit 1 is YCF".
-fn coding_of(flags: u16) -> u8
-    ensures { result ≡ coding flags }
+fn coding_of<S: Samples>(flags: u16) -> u8
+    ensures { result ≡ coding_of S.writer.coding flags }
 {
     if flags / 2 == 1 {
-        return crate::LUMA;
+        return S::LUMA;
     }
-    crate::COLOUR
+    S::COLOUR
 }
 
 // The fields of a structure before its array's bytes (004, table 7). These are few: the high halves of the array's count and element length
@@ -124,41 +122,47 @@ pub fn put_fields(line: Line, wrapping: u8, coding: u8, samples: u16, array: u16
     put_two(out, 12, 1);
 }
 
-// A packet's structure (004, table 7) of its words from DID to the last user word. Without padding (B.5) the array has as many bytes as
-// there are samples.
-fn put_structure(line: Line, wrapping: u8, flags: u16, ws: &[u16], out: &mut [u8])
-    requires { (length ws.now ≤ 258) × (length out.old ≡ 14 + length ws.now) }
-    ensures { out.new ≡ two line.0 ++ wrapping ∷ coding flags ∷ two (length ws.now)
-        ++ four (length ws.now) ++ four 1 ++ map low ws.now }
+// A packet's structure (004, table 7) of the words that are sampled, without padding (B.5).
+fn put_structure<S: Samples>(line: Line, wrapping: u8, flags: u16, ws: &[u16], out: &mut [u8])
+    requires few { length ws.now ≤ 259 }
+    requires fits { S.writer.fits ws.now }
+    requires out_len { length out.old ≡ 14 + length (S.writer.array ws.now) }
+    ensures { out.new ≡ structure_of S.writer.coding S.writer.array line.0 wrapping flags ws.now }
 {
-    let samples = ws.len() as u16;
-    put_fields(line, wrapping, coding_of(flags), samples, samples, out);
-    put_samples(ws, &mut out[crate::FIELDS..]);
+    let samples = ws.len();
+    let array = S::array_bytes(samples) as u16;
+    put_fields(line, wrapping, coding_of::<S>(flags), samples as u16, array, out);
+    S::put_samples(ws, &mut out[crate::FIELDS..]);
 }
 
 // "This data shall be repeated for each ANC Structure" (004, 7.1): the served packets, in the sheet's order.
-fn put_structures(system: u64, fi: bool, ls: &[u16], ws: &[u16], out: &mut [u8])
-    requires sections { Sections ls.now ws.now }
-    requires out_len { (y : System) (ps : List Packet) → SectionsOf y ps ls.now ws.now
-        → length out.old ≡ length (joined (structure system) (map bare (served system fi ps))) }
-    ensures { (y : System) (ps : List Packet) → SectionsOf y ps ls.now ws.now
-        → out.new ≡ joined (structure system) (map bare (served system fi ps)) }
+fn put_structures<S: Samples>(system: u64, fi: bool, ls: &[u16], ws: &[u16], out: &mut [u8])
+    requires sections { SectionsBy S.writer ls.now ws.now }
+    requires out_len { (y : System) (ps : List Packet) → S.writer.Of y ps ls.now ws.now
+        → length out.old ≡ length (joined (S.writer.bytes system) (map S.writer.item (served system fi ps))) }
+    ensures { (y : System) (ps : List Packet) → S.writer.Of y ps ls.now ws.now
+        → out.new ≡ joined (S.writer.bytes system) (map S.writer.item (served system fi ps)) }
 {
     let wrapping = crate::wrapping(system);
-    let mut k = 0;
     let mut at = 0;
     let mut o = 0;
-    while 2 * k < ls.len() {
-        let end = at + (low_byte(ws[at + 5]) + 6);
+    for k in 0..ls.len() / 2 {
+        let dc = low_byte(ws[at + 5]);
         let flags = ls[2 * k + 1];
         if serves(system, fi, flags) {
-            let line = Line(ls[2 * k]);
-            let next = o + (end - at + 11);
-            put_structure(line, wrapping, flags, &ws[at + 3..end], &mut out[o..next]);
+            let samples = dc + S::OTHERS;
+            let from = at + 3;
+            let next = o + (crate::FIELDS + S::array_bytes(samples));
+            put_structure::<S>(
+                Line(ls[2 * k]),
+                wrapping,
+                flags,
+                &ws[from..from + samples],
+                &mut out[o..next],
+            );
             o = next;
         }
-        at = end + 1;
-        k += 1;
+        at += dc + 7;
     }
 }
 
@@ -190,37 +194,39 @@ pub fn put_head(packets: u16, out: &mut [u8])
 }
 
 // The element of the served packets, over the whole of a buffer that is as long as the element.
-fn put_element(system: u64, fi: bool, packets: u16, ls: &[u16], ws: &[u16], out: &mut [u8])
-    requires sections { Sections ls.now ws.now }
-    requires packets_value { (y : System) (ps : List Packet) → SectionsOf y ps ls.now ws.now
-        → (packets ≡ length (served system fi ps)) × (length out.old ≡ length (element_of system (served system fi ps)))
+fn put_element<S: Samples>(system: u64, fi: bool, packets: u16, ls: &[u16], ws: &[u16], out: &mut [u8])
+    requires sections { SectionsBy S.writer ls.now ws.now }
+    requires packets_value { (y : System) (ps : List Packet) → S.writer.Of y ps ls.now ws.now
+        → (packets ≡ length (served system fi ps)) × (length out.old ≡ length (S.writer.make system (served system fi ps)))
         × (length out.old < 16777216) }
-    ensures { (y : System) (ps : List Packet) → SectionsOf y ps ls.now ws.now
-        → out.new ≡ element_of system (served system fi ps) }
+    ensures { (y : System) (ps : List Packet) → S.writer.Of y ps ls.now ws.now
+        → out.new ≡ S.writer.make system (served system fi ps) }
 {
     put_head(packets, out);
-    put_structures(system, fi, ls, ws, &mut out[crate::HEAD..]);
+    put_structures::<S>(system, fi, ls, ws, &mut out[crate::HEAD..]);
 }
 
-// 18, then 17, of a sheet that has passed the lister's tests: only then is the element written.
-fn write_list(system: u64, fi: bool, sheet: &[u16], element: &mut [u8]) -> ElementWritten
-    requires { (ps : List Packet) × SheetOf system ps sheet.now }
-    ensures { (ps : List Packet) → SheetOf system ps sheet.now
-        → (result ≡ written_of system (with_room system (length element.old) (export system fi ps)))
-        × (element.new ≡ element_in system element.old (with_room system (length element.old) (export system fi ps))) }
+// 18, then 17, of a sheet that has passed its tests: only then is the element written.
+pub fn write_list<S: Samples>(system: u64, fi: bool, sheet: &[u16], element: &mut [u8]) -> Result<Measured, Refused>
+    requires { (ps : List Packet) × S.writer.Sheet system ps sheet.now }
+    ensures { (ps : List Packet) → S.writer.Sheet system ps sheet.now
+        → (told_written result ≡ written_by (S.writer.make system)
+        (with_room_for (S.writer.make system) (length element.old) (export system fi ps)))
+        × (element.new ≡ laid_by (S.writer.make system) element.old
+        (with_room_for (S.writer.make system) (length element.old) (export system fi ps))) }
 {
     let ls = section_b(sheet);
     let ws = section_c(sheet);
-    let m = measure(system, fi, ls, ws);
-    if m.number != 0 {
-        return m;
+    let m = measure::<S>(system, fi, ls, ws)?;
+    if element.len() < m.bytes {
+        return Err(Refused {
+            refusal: Refusal::Buffer,
+            place: 0,
+            word: 0,
+        });
     }
-    let n = m.bytes as usize;
-    if element.len() < n {
-        return refusal(17, 0, 0);
-    }
-    put_element(system, fi, m.packets as u16, ls, ws, &mut element[..n]);
-    m
+    put_element::<S>(system, fi, m.packets as u16, ls, ws, &mut element[..m.bytes]);
+    Ok(m)
 }
 
 // "Refusals: on export the lister's, 18, with the packet, for one served without a line, 17" (document 02, A1).
@@ -229,7 +235,13 @@ pub fn write(sheet: &[u16], fi: bool, element: &mut [u8]) -> ElementWritten
 {
     let t = sheet::test(sheet);
     if t.number != 0 {
-        return refusal(t.number, t.place, t.word);
+        return ElementWritten {
+            number: t.number,
+            place: t.place,
+            word: t.word,
+            packets: 0,
+            bytes: 0,
+        };
     }
-    write_list(t.system, fi, sheet, element)
+    tell(write_list::<Eight>(t.system, fi, sheet, element))
 }

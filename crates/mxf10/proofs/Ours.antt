@@ -28,27 +28,10 @@ use Rattle.mxf.proofs.Exporting.{served-sound, served-few, few-back, head-back, 
 use Rattle.mxf10.specs.Element.{Arrayed, tens, source, ours, samples, structure, value, element, element_of}
 use Rattle.mxf10.specs.Reading.{read, sheet_after}
 use Rattle.mxf10.specs.Demands.{Held, Gives}
-use Rattle.mxf10.proofs.TensLaws.{tens-length, tens-bytes, tens-back}
+use Rattle.mxf10.specs.FoundTens.{tens-length, source-length, found-ten}
+use Rattle.mxf10.proofs.TensLaws.{tens-bytes, tens-back}
 use Rattle.mxf10.proofs.Elements.{structure-length}
 use Rattle.mxf10.proofs.Accepting.{accepted}
-
-pub source-length : (p : Packet) → length (source p) ≡ samples p
-source-length p = let c = coded-length p in let k = length-append (coded p) (check_of p ∷ []) in omega arith
-
--- the samples of a packet as found are below 1024
-pub found-ten : (y : System) (p : Packet) → Found y p → are_ten (source p) ≡ true
-unfolding found_fault
-found-ten y p g =
-    let v : List ℕ = words p ++ [] in
-    let d = dc-low p [] g.within.many in
-    let w =
-    passed 7 (ltb (length v) 7) (flagged v) (are_ten (take 3 (drop 3 v))) (ltb (length v) (dc_in v + 7)) (are_ten (take (dc_in v) (drop 6 v)))
-    (is_ten (get_or v (dc_in v + 6) 0)) (found-fine y p [] g) in
-    let front : take (dc_in v + 3) (drop 3 v) ≡ coded p = ap (λ (n : ℕ). take (n + 3) (drop 3 v)) d ∙ coded-taken p [] in
-    let last : get_or v (dc_in v + 6) 0 ≡ check_of p = ap (λ (n : ℕ). get_or v (n + 6) 0) d ∙ check-taken p [] in
-    let a : are_ten (coded p) ≡ true = sym (ap are_ten front) ∙ ten-parts (dc_in v) v ∙ rw (w.2, w.4) in
-    let b : is_ten (check_of p) ≡ true = sym (ap is_ten last) ∙ w.5 in
-    ten-append (coded p) (check_of p ∷ []) ∙ rw (a, b)
 
 -- the array that we write shows the packet's samples
 pub ours-shows : (y : System) (p : Packet) → Found y p → take (samples p) (samples_in (ours p).array) ≡ source p

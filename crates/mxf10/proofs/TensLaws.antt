@@ -20,6 +20,7 @@ use Rattle.mxf.specs.Element.{ten, four}
 use Rattle.mxf.specs.Judging.{four_in, unpacked, samples_in, array_for}
 use Rattle.mxf.proofs.WritingLaws.{over-all}
 use Rattle.mxf10.specs.Element.{packed, tens}
+use Rattle.mxf10.specs.FoundTens.{tens-length}
 
 -- ---- words of ten bits
 
@@ -91,12 +92,6 @@ module _ (a b c d : ℕ) (hb : b < 256) (hc : c < 256) (hd : d < 256) where
   four-unpacked = rw (sample-0, sample-1, sample-2)
 
 -- ---- how many there are
-
-pub tens-length : (ws : List ℕ) → length (tens ws) ≡ array_for ten (length ws)
-tens-length [] = refl
-tens-length (a ∷ []) = refl
-tens-length (a ∷ b ∷ []) = refl
-tens-length (a ∷ b ∷ c ∷ ws) = let e = tens-length ws in omega arith
 
 pub samples-count : (s : List ℕ) → length (samples_in s) ≡ 3 * (length s / 4)
 samples-count [] = refl

@@ -7,6 +7,7 @@
 --   Reading    the tests of an element, and what reading gives back
 --   Demands    the contracts of the two calls
 --   Figures    elements written out by hand
+--   FoundTens  the writer of ten-bit samples
 --   Parts      what the functions of this crate promise each other
 pub mod Element
 pub mod Writing
@@ -14,3 +15,4 @@ pub mod Reading
 pub mod Demands
 pub mod Figures
 pub mod Parts
+pub mod FoundTens

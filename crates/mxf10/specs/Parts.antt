@@ -11,9 +11,3 @@ pub record SectionsFound (y : System) (ps : List Packet) (ls ws : List ℕ) : Ty
   pub found : All (Found y) ps
   pub section_b : ls ≡ locations ps
   pub section_c : ws ≡ all_words ps
-
--- the same of some packets
-pub record FoundSections (ls ws : List ℕ) : Type 0 where
-  pub system : System
-  pub packets : List Packet
-  pub of : SectionsFound system packets ls ws

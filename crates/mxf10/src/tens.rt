@@ -1,10 +1,13 @@
 // Three ten-bit samples in four bytes, from the high end; the two low-order bits are not used (004, 5.4.4, figure 5).
-ghost use Rattle.std.specs.Prelude.{◌+◌, ◌*◌, ◌/◌, ◌%◌, ◌≤◌, ◌<◌, ◌≡◌, true, length, take};
+ghost use Rattle.std.specs.Prelude.{◌+◌, ◌*◌, ◌/◌, ◌%◌, ◌≤◌, ◌<◌, ◌≡◌, true, length, take, refl};
 ghost use Rattle.std.proofs.lemmas.List.Edits.{sets};
 ghost use Rattle.rules.specs.Found.{are_ten};
 ghost use Rattle.mxf.specs.Element.{four, ten};
 ghost use Rattle.mxf.specs.Judging.{array_for, samples_in};
 ghost use Rattle.mxf10.specs.Element.{packed, tens};
+ghost use Rattle.mxf10.specs.FoundTens.{found_tens};
+
+use mxf::Samples;
 
 // Three samples to four bytes.
 fn put_three(a: u16, b: u16, c: u16, out: &mut [u8], at: usize)
@@ -78,5 +81,36 @@ pub fn unpack(s: &[u8], out: &mut [u16])
     }
     if i + 1 == out.len() {
         out[i] = first(s[o], s[o + 1]);
+    }
+}
+
+// DID to CS of a packet as found, bit for bit (document 02, A13; 004, 7.2).
+pub struct Ten;
+
+impl Samples for Ten {
+    ghost writer = { found_tens };
+
+    ghost LUMA = { 7 };
+
+    ghost COLOUR = { 8 };
+
+    ghost OTHERS = { 4 };
+
+    ghost named = { (refl, refl, refl) };
+
+    // 004, table 7, sample coding: 10-bit luma samples, 10-bit color difference samples.
+    const LUMA: u8 = 7;
+
+    const COLOUR: u8 = 8;
+
+    const OTHERS: usize = 4;
+
+    // "4 bytes representing 3 source samples" (004, 5.4.4).
+    fn array_bytes(samples: usize) -> usize {
+        4 * ((samples + 2) / 3)
+    }
+
+    fn put_samples(ws: &[u16], out: &mut [u8]) {
+        pack(ws, out)
     }
 }
