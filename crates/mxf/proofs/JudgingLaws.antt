@@ -44,31 +44,20 @@ use Rattle.mxf.specs.Judging.{
   judged_as,
 }
 use Rattle.mxf.specs.Reading.{read_of}
-use Rattle.mxf.specs.Parts.{fault_or, Whole, Passes, counted, add_to, whole_from}
+use Rattle.mxf.specs.Parts.{beside, Whole, Passes, counted, add_to, whole_from}
 use Rattle.mxf.specs.declared.ElementRead.{ElementRead}
 
 -- ---- a field
 
-module _ (none place : ℕ) (o : Outcome) where
-  fault : (place ≡ none → ⊥) → refused 19 place ≡ fault_or none place o
-  fault h = rw (ne_eqb place none h)
-
-  pub no-fault : place ≡ none → fault_or none place o ≡ o
-  no-fault h = rw (eq-eqb place none h)
-
--- a fault stands, whatever would follow
-pub fault-stays : (place : ℕ) (o q : Outcome) → (place ≡ 0 → ⊥) → fault_or 0 place o ≡ fault_or 0 place q
-fault-stays place o q h = sym (fault 0 place o h) ∙ fault 0 place q h
-
--- bytes are missing, whatever would follow
-missing : (none at : ℕ) (s : List ℕ) (end : ℕ) (next o : Outcome) (place : ℕ) → place ≡ at + length s → (place ≡ none → ⊥) → length s < end
-    → cond (ltb (length s) end) (refused 19 (at + length s)) next ≡ fault_or none place o
-missing none at s end next o place e h l = rw (lt-ltb (length s) end l, ← e) (fault none place o h)
+-- bytes are missing
+missing : (at : ℕ) (s : List ℕ) (end : ℕ) (next : Outcome) (place : ℕ) → place ≡ at + length s → length s < end
+    → cond (ltb (length s) end) (refused 19 (at + length s)) next ≡ refused 19 place
+missing at s end next place e l = rw (lt-ltb (length s) end l, ← e)
 
 -- the bytes are there, and the field is wrong, or right
-wrong : (none at : ℕ) (s : List ℕ) (i size : ℕ) (test : Bool) (next o : Outcome) (place : ℕ) → place ≡ at + i → (place ≡ none → ⊥)
-    → i + size ≤ length s → test ≡ false → field at s i size test next ≡ fault_or none place o
-wrong none at s i size test next o place e h l w = rw (le-ltb (length s) (i + size) l, w, ← e) (fault none place o h)
+wrong : (at : ℕ) (s : List ℕ) (i size : ℕ) (test : Bool) (next : Outcome) (place : ℕ) → place ≡ at + i → i + size ≤ length s → test ≡ false
+    → field at s i size test next ≡ refused 19 place
+wrong at s i size test next place e l w = rw (le-ltb (length s) (i + size) l, w, ← e)
 
 pub right : (at : ℕ) (s : List ℕ) (i size : ℕ) (test : Bool) (next : Outcome) → i + size ≤ length s → test ≡ true
     → field at s i size test next ≡ next
@@ -86,13 +75,13 @@ key-turn i e o l = let k = key-long in rw (drop-cons key i 0 (omega arith))
 
 -- byte i of the key
 module _ (i : ℕ) (e : List ℕ) (o : Outcome) (l : i < 16) where
-  pub key-missing : i ≡ length e → key_then i (drop i key) e o ≡ fault_or 16 i o
-  key-missing h = key-turn i e o l ∙ missing 16 0 e (i + 1) _ o i (omega arith) (λ z. omega arith) (omega arith)
+  pub key-missing : i ≡ length e → key_then i (drop i key) e o ≡ refused 19 i
+  key-missing h = key-turn i e o l ∙ missing 0 e (i + 1) _ i (omega arith) (omega arith)
 
-  pub key-differs : i < length e → (get_or e i 0 ≡ get_or key i 0 → ⊥) → key_then i (drop i key) e o ≡ fault_or 16 i o
+  pub key-differs : i < length e → (get_or e i 0 ≡ get_or key i 0 → ⊥) → key_then i (drop i key) e o ≡ refused 19 i
   key-differs m h =
       key-turn i e o l
-      ∙ wrong 16 0 e i 1 _ _ o i (omega arith) (λ z. omega arith) (omega arith) (ne_eqb (get_or e i 0) (get_or key i 0) h)
+      ∙ wrong 0 e i 1 _ _ i (omega arith) (omega arith) (ne_eqb (get_or e i 0) (get_or key i 0) h)
 
   pub key_more : i < length e → get_or e i 0 ≡ get_or key i 0 → key_then i (drop i key) e o ≡ key_then (i + 1) (drop (i + 1) key) e o
   key_more m h =
@@ -104,48 +93,46 @@ key-end i e o h = rw h
 
 -- ---- the head
 
--- how many bytes of the key were found
-module _ (e : List ℕ) (n : ℕ) (found : (o : Outcome) → key_then 0 key e o ≡ fault_or 16 n o) (o : Outcome) where
+module _ (e : List ℕ) (o : Outcome) where
   abbrev from_form : Outcome
   from_form =
       field 0 e 16 1 (eqb (get_or e 16 0) 0x83) (field 0 e 17 3 (eqb (20 + three_in e 17) (length e)) (field 0 e 20 2 true o))
 
-  head-is : head_then e o ≡ fault_or 16 n from_form
+  pub key-wrong : (place : ℕ) → ((o : Outcome) → key_then 0 key e o ≡ refused 19 place) → head_then e o ≡ refused 19 place
   unfolding head_then
-  head-is = found from_form
+  key-wrong place found = found from_form
 
-  pub key-wrong : n < 16 → head_then e o ≡ fault_or 22 n o
-  key-wrong l = head-is ∙ sym (fault 16 n from_form (λ z. omega arith)) ∙ fault 22 n o (λ z. omega arith)
-
-  module _ (all : n ≡ 16) where
+  -- all bytes of the key were found
+  module _ (all : (o : Outcome) → key_then 0 key e o ≡ o) where
     from-form : head_then e o ≡ from_form
-    from-form = head-is ∙ no-fault 16 n from_form all
+    unfolding head_then
+    from-form = all from_form
 
-    pub form-missing : length e < 17 → head_then e o ≡ fault_or 22 (length e) o
-    form-missing l = from-form ∙ missing 22 0 e 17 _ o (length e) (omega arith) (λ z. omega arith) l
+    pub form-missing : length e < 17 → head_then e o ≡ refused 19 (length e)
+    form-missing l = from-form ∙ missing 0 e 17 _ (length e) (omega arith) l
 
     module _ (l17 : 17 ≤ length e) where
-      pub form-wrong : (get_or e 16 0 ≡ 0x83 → ⊥) → head_then e o ≡ fault_or 22 16 o
-      form-wrong h = from-form ∙ wrong 22 0 e 16 1 _ _ o 16 (omega arith) (λ z. omega arith) l17 (ne_eqb (get_or e 16 0) 0x83 h)
+      pub form-wrong : (get_or e 16 0 ≡ 0x83 → ⊥) → head_then e o ≡ refused 19 16
+      form-wrong h = from-form ∙ wrong 0 e 16 1 _ _ 16 (omega arith) l17 (ne_eqb (get_or e 16 0) 0x83 h)
 
       module _ (form : get_or e 16 0 ≡ 0x83) where
         from-length : head_then e o ≡ field 0 e 17 3 (eqb (20 + three_in e 17) (length e)) (field 0 e 20 2 true o)
         from-length = from-form ∙ right 0 e 16 1 _ _ l17 (eq-eqb (get_or e 16 0) 0x83 form)
 
-        pub length-missing : length e < 20 → head_then e o ≡ fault_or 22 (length e) o
-        length-missing l = from-length ∙ missing 22 0 e 20 _ o (length e) (omega arith) (λ z. omega arith) l
+        pub length-missing : length e < 20 → head_then e o ≡ refused 19 (length e)
+        length-missing l = from-length ∙ missing 0 e 20 _ (length e) (omega arith) l
 
         module _ (l20 : 20 ≤ length e) where
-          pub length-wrong : (20 + three_in e 17 ≡ length e → ⊥) → head_then e o ≡ fault_or 22 17 o
+          pub length-wrong : (20 + three_in e 17 ≡ length e → ⊥) → head_then e o ≡ refused 19 17
           length-wrong h =
-              from-length ∙ wrong 22 0 e 17 3 _ _ o 17 (omega arith) (λ z. omega arith) l20 (ne_eqb (20 + three_in e 17) (length e) h)
+              from-length ∙ wrong 0 e 17 3 _ _ 17 (omega arith) l20 (ne_eqb (20 + three_in e 17) (length e) h)
 
           module _ (long : 20 + three_in e 17 ≡ length e) where
             from-n : head_then e o ≡ field 0 e 20 2 true o
             from-n = from-length ∙ right 0 e 17 3 _ _ l20 (eq-eqb (20 + three_in e 17) (length e) long)
 
-            pub n-missing : length e < 22 → head_then e o ≡ fault_or 22 (length e) o
-            n-missing l = from-n ∙ missing 22 0 e 22 _ o (length e) (omega arith) (λ z. omega arith) l
+            pub n-missing : length e < 22 → head_then e o ≡ refused 19 (length e)
+            n-missing l = from-n ∙ missing 0 e 22 _ (length e) (omega arith) l
 
             pub head-right : 22 ≤ length e → head_then e o ≡ o
             head-right l = from-n ∙ right 0 e 20 2 true o l refl
@@ -156,20 +143,20 @@ either_second : (a b : Bool) → b ≡ true → (a || b) ≡ true
 either_second true b e = refl
 either_second false b e = e
 
-module _ (c : Coding) (sys last at : ℕ) (s : List ℕ) (pos : 0 < at) (is : last ≡ (system sys).last) (o : Outcome) where
-  pub line-missing : length s < 2 → front_then c sys at s o ≡ fault_or 0 (at + length s) o
+module _ (c : Coding) (sys last at : ℕ) (s : List ℕ) (is : last ≡ (system sys).last) (o : Outcome) where
+  pub line-missing : length s < 2 → front_then c sys at s o ≡ refused 19 (at + length s)
   unfolding front_then
-  line-missing l = missing 0 at s 2 _ o (at + length s) refl (λ z. omega arith) l
+  line-missing l = missing at s 2 _ (at + length s) refl l
 
   module _ (l2 : 2 ≤ length s) where
-    line-wrong : in_frame (system sys) (two_in s 0) ≡ false → front_then c sys at s o ≡ fault_or 0 at o
+    line-wrong : in_frame (system sys) (two_in s 0) ≡ false → front_then c sys at s o ≡ refused 19 at
     unfolding front_then
-    line-wrong w = wrong 0 at s 0 2 _ _ o at (omega arith) (λ z. omega arith) l2 w
+    line-wrong w = wrong at s 0 2 _ _ at (omega arith) l2 w
 
-    pub line-none : two_in s 0 ≡ 0 → front_then c sys at s o ≡ fault_or 0 at o
+    pub line-none : two_in s 0 ≡ 0 → front_then c sys at s o ≡ refused 19 at
     line-none z = line-wrong (rw (eq-eqb (two_in s 0) 0 z))
 
-    pub line-past : last < two_in s 0 → front_then c sys at s o ≡ fault_or 0 at o
+    pub line-past : last < two_in s 0 → front_then c sys at s o ≡ refused 19 at
     unfolding stands
     line-past p =
         line-wrong (second-false (not (eqb (two_in s 0) 0)) (stands (system sys) (two_in s 0)) (rw (← is) (lt-leb (two_in s 0) last p)))
@@ -183,27 +170,27 @@ module _ (c : Coding) (sys last at : ℕ) (s : List ℕ) (pos : 0 < at) (is : la
       unfolding front_then
       from-wrapping = right at s 0 2 _ _ l2 in_frame_lem
 
-      pub wrapping-missing : length s < 3 → front_then c sys at s o ≡ fault_or 0 (at + length s) o
-      wrapping-missing l = from-wrapping ∙ missing 0 at s 3 _ o (at + length s) refl (λ z. omega arith) l
+      pub wrapping-missing : length s < 3 → front_then c sys at s o ≡ refused 19 (at + length s)
+      wrapping-missing l = from-wrapping ∙ missing at s 3 _ (at + length s) refl l
 
       module _ (l3 : 3 ≤ length s) (w : ℕ) (wraps : w ≡ wrapping sys) where
-        pub wrapping-wrong : (get_or s 2 0 ≡ w → ⊥) → front_then c sys at s o ≡ fault_or 0 (at + 2) o
+        pub wrapping-wrong : (get_or s 2 0 ≡ w → ⊥) → front_then c sys at s o ≡ refused 19 (at + 2)
         wrapping-wrong h =
             from-wrapping
-            ∙ wrong 0 at s 2 1 _ _ o (at + 2) refl (λ z. omega arith) l3 (ne_eqb (get_or s 2 0) (wrapping sys) (λ z. h (z ∙ sym wraps)))
+            ∙ wrong at s 2 1 _ _ (at + 2) refl l3 (ne_eqb (get_or s 2 0) (wrapping sys) (λ z. h (z ∙ sym wraps)))
 
         module _ (wrapped : get_or s 2 0 ≡ w) where
           from-coding : front_then c sys at s o ≡ field at s 3 1 (is_coding c (get_or s 3 0)) o
           from-coding = from-wrapping ∙ right at s 2 1 _ _ l3 (eq-eqb (get_or s 2 0) (wrapping sys) (wrapped ∙ wraps))
 
-          pub coding-missing : length s < 4 → front_then c sys at s o ≡ fault_or 0 (at + length s) o
-          coding-missing l = from-coding ∙ missing 0 at s 4 _ o (at + length s) refl (λ z. omega arith) l
+          pub coding-missing : length s < 4 → front_then c sys at s o ≡ refused 19 (at + length s)
+          coding-missing l = from-coding ∙ missing at s 4 _ (at + length s) refl l
 
           module _ (l4 : 4 ≤ length s) where
-            pub coding-wrong : (get_or s 3 0 ≡ lumaOf c → ⊥) → (get_or s 3 0 ≡ colourOf c → ⊥) → front_then c sys at s o ≡ fault_or 0 (at + 3) o
+            pub coding-wrong : (get_or s 3 0 ≡ lumaOf c → ⊥) → (get_or s 3 0 ≡ colourOf c → ⊥) → front_then c sys at s o ≡ refused 19 (at + 3)
             coding-wrong h k =
                 from-coding
-                ∙ wrong 0 at s 3 1 (is_coding c (get_or s 3 0)) o o (at + 3) refl (λ z. omega arith) l4
+                ∙ wrong at s 3 1 (is_coding c (get_or s 3 0)) o (at + 3) refl l4
                 (rw (ne_eqb (get_or s 3 0) (lumaOf c) h, ne_eqb (get_or s 3 0) (colourOf c) k))
 
             pub luma : get_or s 3 0 ≡ lumaOf c → front_then c sys at s o ≡ o
@@ -220,7 +207,7 @@ over-dc : (c : Coding) (n : ℕ) → others c ≤ n → 2 + dc_bytes c ≤ array
 over-dc eight n l = l
 over-dc ten n l = omega arith
 
-module _ (c : Coding) (at : ℕ) (s : List ℕ) (pos : 0 < at) (o : Outcome) where
+module _ (c : Coding) (at : ℕ) (s : List ℕ) (o : Outcome) where
   abbrev from_dc : Outcome
   from_dc = field at s 16 (dc_bytes c) (eqb (dc_in c s + others c) (two_in s 4)) o
 
@@ -233,19 +220,19 @@ module _ (c : Coding) (at : ℕ) (s : List ℕ) (pos : 0 < at) (o : Outcome) whe
   abbrev from_array : Outcome
   from_array = field at s 6 4 is_array from_element
 
-  pub count-missing : length s < 6 → array_then c at s o ≡ fault_or 0 (at + length s) o
+  pub count-missing : length s < 6 → array_then c at s o ≡ refused 19 (at + length s)
   unfolding array_then
-  count-missing l = missing 0 at s 6 _ o (at + length s) refl (λ z. omega arith) l
+  count-missing l = missing at s 6 _ (at + length s) refl l
 
   module _ (l6 : 6 ≤ length s) where
-    count-wrong : is_count c (two_in s 4) ≡ false → array_then c at s o ≡ fault_or 0 (at + 4) o
+    count-wrong : is_count c (two_in s 4) ≡ false → array_then c at s o ≡ refused 19 (at + 4)
     unfolding array_then
-    count-wrong w = wrong 0 at s 4 2 _ _ o (at + 4) refl (λ z. omega arith) l6 w
+    count-wrong w = wrong at s 4 2 _ _ (at + 4) refl l6 w
 
-    pub too_few : two_in s 4 < others c → array_then c at s o ≡ fault_or 0 (at + 4) o
+    pub too_few : two_in s 4 < others c → array_then c at s o ≡ refused 19 (at + 4)
     too_few l = count-wrong (rw (lt-leb (others c) (two_in s 4) l))
 
-    pub too_many : others c + 255 < two_in s 4 → array_then c at s o ≡ fault_or 0 (at + 4) o
+    pub too_many : others c + 255 < two_in s 4 → array_then c at s o ≡ refused 19 (at + 4)
     too_many l = count-wrong (second-false (leb (others c) (two_in s 4)) (leb (two_in s 4) (others c + 255)) (lt-leb (two_in s 4) (others c + 255) l))
 
     module _ (least : others c ≤ two_in s 4) (most : two_in s 4 ≤ others c + 255) where
@@ -255,19 +242,19 @@ module _ (c : Coding) (at : ℕ) (s : List ℕ) (pos : 0 < at) (o : Outcome) whe
           right at s 4 2 (is_count c (two_in s 4)) from_array l6
           (rw (le-leb (others c) (two_in s 4) least) (le-leb (two_in s 4) (others c + 255) most))
 
-      pub array-missing : length s < 10 → array_then c at s o ≡ fault_or 0 (at + length s) o
-      array-missing l = from-array ∙ missing 0 at s 10 _ o (at + length s) refl (λ z. omega arith) l
+      pub array-missing : length s < 10 → array_then c at s o ≡ refused 19 (at + length s)
+      array-missing l = from-array ∙ missing at s 10 _ (at + length s) refl l
 
       module _ (l10 : 10 ≤ length s) where
-        pub array-small : four_in s 6 < array_for c (two_in s 4) → array_then c at s o ≡ fault_or 0 (at + 6) o
+        pub array-small : four_in s 6 < array_for c (two_in s 4) → array_then c at s o ≡ refused 19 (at + 6)
         array-small l =
             from-array
-            ∙ wrong 0 at s 6 4 is_array from_element o (at + 6) refl (λ z. omega arith) l10 (rw (lt-leb (array_for c (two_in s 4)) (four_in s 6) l))
+            ∙ wrong at s 6 4 is_array from_element (at + 6) refl l10 (rw (lt-leb (array_for c (two_in s 4)) (four_in s 6) l))
 
-        pub array-past : length s < size_in s → array_then c at s o ≡ fault_or 0 (at + 6) o
+        pub array-past : length s < size_in s → array_then c at s o ≡ refused 19 (at + 6)
         array-past l =
             from-array
-            ∙ wrong 0 at s 6 4 _ _ o (at + 6) refl (λ z. omega arith) l10
+            ∙ wrong at s 6 4 _ _ (at + 6) refl l10
             (second-false (leb (array_for c (two_in s 4)) (four_in s 6)) (leb (size_in s) (length s)) (lt-leb (size_in s) (length s) l))
 
         module _ (room : array_for c (two_in s 4) ≤ four_in s 6) (there : size_in s ≤ length s) where
@@ -277,9 +264,9 @@ module _ (c : Coding) (at : ℕ) (s : List ℕ) (pos : 0 < at) (o : Outcome) whe
               ∙ right at s 6 4 is_array from_element l10
               (rw (le-leb (array_for c (two_in s 4)) (four_in s 6) room) (le-leb (size_in s) (length s) there))
 
-          pub element-wrong : (four_in s 10 ≡ 1 → ⊥) → array_then c at s o ≡ fault_or 0 (at + 10) o
+          pub element-wrong : (four_in s 10 ≡ 1 → ⊥) → array_then c at s o ≡ refused 19 (at + 10)
           element-wrong h =
-              from-element ∙ wrong 0 at s 10 4 _ _ o (at + 10) refl (λ z. omega arith) (omega arith) (ne_eqb (four_in s 10) 1 h)
+              from-element ∙ wrong at s 10 4 _ _ (at + 10) refl (omega arith) (ne_eqb (four_in s 10) 1 h)
 
           module _ (single : four_in s 10 ≡ 1) where
             from-dc : array_then c at s o ≡ from_dc
@@ -288,9 +275,9 @@ module _ (c : Coding) (at : ℕ) (s : List ℕ) (pos : 0 < at) (o : Outcome) whe
             dc-there : 16 + dc_bytes c ≤ length s
             dc-there = let l = over-dc c (two_in s 4) least in omega arith
 
-            pub dc-wrong : (dc_in c s + others c ≡ two_in s 4 → ⊥) → array_then c at s o ≡ fault_or 0 (at + 16) o
+            pub dc-wrong : (dc_in c s + others c ≡ two_in s 4 → ⊥) → array_then c at s o ≡ refused 19 (at + 16)
             dc-wrong h =
-                from-dc ∙ wrong 0 at s 16 (dc_bytes c) _ _ o (at + 16) refl (λ z. omega arith) dc-there (ne_eqb (dc_in c s + others c) (two_in s 4) h)
+                from-dc ∙ wrong at s 16 (dc_bytes c) _ _ (at + 16) refl dc-there (ne_eqb (dc_in c s + others c) (two_in s 4) h)
 
             pub array-right : dc_in c s + others c ≡ two_in s 4 → array_then c at s o ≡ o
             array-right h = from-dc ∙ right at s 16 (dc_bytes c) _ _ dc-there (eq-eqb (dc_in c s + others c) (two_in s 4) h)
@@ -298,20 +285,30 @@ module _ (c : Coding) (at : ℕ) (s : List ℕ) (pos : 0 < at) (o : Outcome) whe
 -- ---- one without a fault
 
 -- its line, wrapping and coding are right, and its array
-pub passes : (sys last : ℕ) (s : List ℕ) → last ≡ (system sys).last → (two_in s 0 ≡ 0 → ⊥) → two_in s 0 ≤ last → get_or s 2 0 ≡ wrapping sys
-    → (get_or s 3 0 ≡ 4) ⊎ (get_or s 3 0 ≡ 5) → Whole eight s → two_in s 4 ≤ 258 → four_in s 10 ≡ 1 → Passes sys s
-passes sys last s is some within wrapped coded w most single at o =
+pub passes : (c : Coding) (sys last : ℕ) (s : List ℕ) → last ≡ (system sys).last → (two_in s 0 ≡ 0 → ⊥) → two_in s 0 ≤ last
+    → get_or s 2 0 ≡ wrapping sys → (get_or s 3 0 ≡ lumaOf c) ⊎ (get_or s 3 0 ≡ colourOf c) → Whole c s → two_in s 4 ≤ others c + 255
+    → four_in s 10 ≡ 1 → Passes c sys s
+passes c sys last s is some within wrapped coded w most single at o =
     let a = w.there in
     let b = w.room in
     let d = w.dc in
-    let next : Outcome = array_then eight (22 + at) s o in
+    let next : Outcome = array_then c (22 + at) s o in
     ⊎_elim
-    (luma eight sys last (22 + at) s (omega arith) is next (omega arith) some within (omega arith) _ refl wrapped (omega arith))
-    (colour eight sys last (22 + at) s (omega arith) is next (omega arith) some within (omega arith) _ refl wrapped (omega arith))
+    (luma c sys last (22 + at) s is next (omega arith) some within (omega arith) _ refl wrapped (omega arith))
+    (colour c sys last (22 + at) s is next (omega arith) some within (omega arith) _ refl wrapped (omega arith))
     coded
-    ∙ array-right eight (22 + at) s (omega arith) o (omega arith) (omega arith) most (omega arith) b a single d
+    ∙ array-right c (22 + at) s o (omega arith) (omega arith) most (omega arith) b a single d
 
 -- ---- the structures
+
+-- a sample takes a byte at least, and a packet has few words beside them
+pub array-least : (c : Coding) (n : ℕ) → n ≤ array_for c n
+array-least eight n = omega arith
+array-least ten n = omega arith
+
+pub beside-few : (c : Coding) → beside c ≤ 4
+beside-few eight = omega arith
+beside-few ten = omega arith
 
 -- numbers of bytes, from a place on
 pub two-drop : (at i : ℕ) (s : List ℕ) → two_in (drop at s) i ≡ two_in s (at + i)
@@ -384,8 +381,8 @@ module _ (c : Coding) (at : ℕ) (s : List ℕ) (w : Whole c (take (length s - a
       omega arith
 
 -- the words of a packet: ADF and CS beside its samples of 8 bits
-pub packet-long : (sys : ℕ) (fi : Bool) (s : List ℕ) → Whole eight s → bytes_of (packet_in eight sys fi s) ≡ two_in s 4 + 4
-packet-long sys fi s w =
+pub eight-long : (sys : ℕ) (fi : Bool) (s : List ℕ) → Whole eight s → bytes_of (packet_in eight sys fi s) ≡ two_in s 4 + 4
+eight-long sys fi s w =
     let l = length-drop 17 s in
     let h = w.there in
     let r = w.room in
@@ -393,55 +390,57 @@ packet-long sys fi s w =
     let u = length-take-le (get_or s 16 0) (drop 17 s) (omega arith) in
     omega arith
 
--- the structure at a place, and the fault that its tests gave
-module _ (c : Coding) (sys : ℕ) (fi : Bool) (n k at numbers : ℕ) (s : List ℕ) (h : k < n) (f : ℕ)
-    (tested : (o : Outcome)
-    → front_then c sys (22 + at) (take (length s - at) (drop at s)) (array_then c (22 + at) (take (length s - at) (drop at s)) o) ≡ fault_or 0 f o)
-  where
+-- the structure at a place, by its tests
+module _ (c : Coding) (sys : ℕ) (fi : Bool) (n k at numbers : ℕ) (s : List ℕ) (h : k < n) where
     abbrev t : List ℕ
     t = drop at s
+
+    abbrev tests : Outcome → Outcome
+    tests o = front_then c sys (22 + at) (take (length s - at) (drop at s)) (array_then c (22 + at) (take (length s - at) (drop at s)) o)
 
     abbrev later : Outcome
     later = also (packet_in c sys fi t) (structures c sys fi (n - (k + 1)) (22 + at + size_in t) (drop (size_in t) t))
 
-    turn : structures c sys fi (n - k) (22 + at) t ≡ fault_or 0 f later
-    turn =
+    turn : (o : Outcome) → tests later ≡ o → structures c sys fi (n - k) (22 + at) t ≡ o
+    turn o q =
         let e : n - k ≡ suc (n - (k + 1)) = omega arith in
-        rw e (rw (rest_part at s) at (tested later))
+        rw e (rw (rest_part at s) at q)
 
-    pub at-fault : (f ≡ 0 → ⊥) → read_of 0 (refused 19 f) ≡ whole_from c sys fi n k at numbers s
-    at-fault g = sym (ap (add_to k numbers) (turn ∙ sym (fault 0 f later g)))
+    pub at-fault : (place : ℕ) → ((o : Outcome) → tests o ≡ refused 19 place)
+        → read_of 0 (refused 19 place) ≡ whole_from c sys fi n k at numbers s
+    at-fault place q = sym (ap (add_to k numbers) (turn (refused 19 place) (q later)))
 
     -- the sheet numbers of its packet: samples, the words beside them, and a location
-    pub at_next : f ≡ 0 → (beside : ℕ) → bytes_of (packet_in c sys fi t) ≡ two_in t 4 + beside
+    pub at_next : ((o : Outcome) → tests o ≡ o) → (beside : ℕ) → bytes_of (packet_in c sys fi t) ≡ two_in t 4 + beside
         → (two four : ℕ) → two ≡ two_in s (at + 4) → four ≡ four_in s (at + 6)
         → whole_from c sys fi n (k + 1) (at + (14 + four)) (numbers + (two + (beside + 2))) s ≡ whole_from c sys fi n k at numbers s
-    at_next z beside long two four d e =
+    at_next q beside long two four d e =
         let x = two-drop at 4 s in
         let a : numbers + (2 + bytes_of (packet_in c sys fi t)) ≡ numbers + (two + (beside + 2)) = omega arith in
         let b : size_in t ≡ 14 + four = ap (λ (m : ℕ). 14 + m) (four-drop at 6 s ∙ sym e) in
         let p : 22 + at + size_in t ≡ 22 + (at + (14 + four)) = omega arith in
         let r : drop (size_in t) t ≡ drop (at + (14 + four)) s = drop-drop (size_in t) at s ∙ ap (λ (m : ℕ). drop (at + m) s) b in
         sym
-        (ap (add_to k numbers) (turn ∙ no-fault 0 f later z)
+        (ap (add_to k numbers) (turn later (q later))
         ∙ add-also k numbers (packet_in c sys fi t) (structures c sys fi (n - (k + 1)) (22 + at + size_in t) (drop (size_in t) t))
         ∙ (λ i. add_to (k + 1) (a i) (structures c sys fi (n - (k + 1)) (p i) (r i))))
 
 -- ---- the element
 
--- the fault that the tests of its head gave
-module _ (c : Coding) (sys : ℕ) (fi : Bool) (e : List ℕ) (f : ℕ) (tested : (o : Outcome) → head_then e o ≡ fault_or 22 f o) where
+-- by the tests of its head
+module _ (c : Coding) (sys : ℕ) (fi : Bool) (e : List ℕ) where
   abbrev behind : Outcome
   behind = structures c sys fi (two_in e 20) 22 (drop 22 e)
 
-  pub head-wrong : f < 22 → read_of 0 (refused 19 f) ≡ read_of sys (judged_as c sys fi e)
+  pub head-wrong : (place : ℕ) → ((o : Outcome) → head_then e o ≡ refused 19 place)
+      → read_of 0 (refused 19 place) ≡ read_of sys (judged_as c sys fi e)
   unfolding judged_as
-  head-wrong l = ap (read_of sys) (fault 22 f behind (λ z. omega arith) ∙ sym (tested behind))
+  head-wrong place tested = ap (read_of sys) (sym (tested behind))
 
-  pub from-structures : f ≡ 22 → (n : ℕ) → n ≡ two_in e 20 → (r : ElementRead)
+  pub from-structures : ((o : Outcome) → head_then e o ≡ o) → (n : ℕ) → n ≡ two_in e 20 → (r : ElementRead)
       → r ≡ read_of sys (structures c sys fi n 22 (take (length e - 22) (drop 22 e))) → r ≡ read_of sys (judged_as c sys fi e)
   unfolding judged_as
-  from-structures z n d r g =
+  from-structures tested n d r g =
       g
       ∙ (λ i. read_of sys (structures c sys fi (d i) 22 (rest_part 22 e i)))
-      ∙ ap (read_of sys) (sym (tested behind ∙ no-fault 22 f behind z))
+      ∙ ap (read_of sys) (sym (tested behind))

@@ -1,6 +1,7 @@
 -- The laws of this crate.
 --
 --   JudgingLaws   each way through the code of `judging`
+--   Tens          what a structure of ten-bit samples shows
 --   Inversion     from an element without fault back to the facts of each field
 --   Structures    what the elements of either coding have in common
 --   Elements      an element is read as it was written, and what is read was written so
@@ -11,6 +12,7 @@
 --   WritingLaws   each way through the code of `writing` that is its own, and the contract of writing
 --   ReadingLaws   each way through the code of `reading`
 pub mod JudgingLaws
+pub mod Tens
 pub mod Inversion
 pub mod Structures
 pub mod Elements

@@ -1,6 +1,6 @@
 -- Reading an element that has been found right: its structures one after the other, and what is written of the sheet so far.
 --
--- In order: the structures that are left; locations; lines; the words of packets, and those of 8-bit samples; the sections; the answer.
+-- In order: the structures that are left; locations; lines; the words of packets; the sections; the answer.
 -- Assumes nothing.
 use Prim.Native.Nat.{ℕ, suc, ◌+◌, ◌-◌, ◌*◌, ◌≤◌, ◌<◌}
 use mathlib.Core.Path.{◌≡◌, refl, sym, ap, ap₂, ◌∙◌, subst}
@@ -16,28 +16,28 @@ use lib.Seq.{length-take-le, get_or-drop, drop-cons, drop-drop, take_all}
 use borrow.Author.Tests.{eq-eqb, ne_eqb, le-leb, lt-leb}
 use Rattle.rules.specs.Base.{Bytes}
 use Rattle.rules.specs.Systems.{System, known, system, allowed}
-use Rattle.rules.specs.Packet.{Packet, body, word, check, coded, check_of, words}
+use Rattle.rules.specs.Packet.{Packet, words}
 use Rattle.rules.specs.Sheet.{limit, locations, all_words, sheet_of}
 use Rattle.rules.specs.Numbers.{Outcome, listed, refused, unless, and_then}
 use Rattle.rules.specs.Laying.{location_allowed}
 use Rattle.rules.specs.Reading.{buffer_of}
-use Rattle.rules.proofs.Basics.{second-false}
+use Rattle.rules.proofs.Basics.{second-false, rest_part}
 use Rattle.rules.proofs.Sheets.{locations-length, sheet-length}
-use Rattle.rules.proofs.Words.{packet-words, words-room}
+use Rattle.rules.proofs.Words.{packet-words, words-room as words-count}
 use Rattle.sheet.specs.Standing.{in_front}
-use Rattle.sheet.specs.Write.{has_room, list_in, framed, words_after}
+use Rattle.sheet.specs.Write.{has_room, list_in}
 use Rattle.sheet.proofs.Laws.{count_at}
-use Rattle.sheet.proofs.WriteLaws.{words-after}
 use Rattle.sheet.proofs.Filling.{two-more, part-long, part-more, all-written, three_of, back_of}
 use Rattle.sheet.proofs.Filling.{sheet-before, sheet-lent, sheet-long, sheet-filled}
 use Rattle.mxf.specs.Served.{fi_read}
-use Rattle.mxf.specs.Element.{Coding, eight, luma}
+use Rattle.mxf.specs.Element.{Coding, luma}
 use Rattle.mxf.specs.Judging.{two_in, four_in, others, array_for, size_in, dc_in, packet_in, structures, judged, judged_as}
 use Rattle.mxf.specs.Reading.{last_tests, packet_tests, reading_of, reading, read_of, read, sheet_after}
 use Rattle.mxf.specs.Demands.{Reads}
-use Rattle.mxf.specs.Parts.{packets_of_structures, Judged, Sized, Answers}
+use Rattle.mxf.specs.Parts.{Whole, packets_of_structures, Judged, Sized, beside, words_by, Answers}
 use Rattle.mxf.specs.declared.ElementRead.{ElementRead}
 use Rattle.mxf.proofs.JudgingLaws.{two-drop, four-drop}
+use Rattle.mxf.proofs.Tens.{packet-long, words-shown}
 use Rattle.mxf.proofs.Accepting.{reads}
 use Rattle.mxf.proofs.Inversion.{structures-listed, structures-none, structures-count, judged-listed, judged-number}
 
@@ -280,79 +280,50 @@ module _ (c : Coding) (sys : ℕ) (fi : Bool) (n : ℕ) (s out : List ℕ) where
                   ∙ was.written;
             }
 
--- ---- the words of packets of 8-bit samples
-
--- "samples run from DID to the last user word"
-packet-framed : (sys : ℕ) (fi : Bool) (t : List ℕ) (n : ℕ) → get_or t 16 0 + 3 ≡ n → 14 + n ≤ length t
-    → words (packet_in eight sys fi t) ≡ framed (map word (take n (drop 14 t)))
-unfolding words coded check_of framed
-packet-framed sys fi t n e h =
-    let d : ℕ = get_or t 16 0 in
-    let l : length (take d (drop 17 t)) ≡ d = length-take-le d (drop 17 t) (let x = length-drop 17 t in omega arith) in
-    let a : drop 14 t ≡ get_or t 14 0 ∷ get_or t 15 0 ∷ d ∷ drop 17 t =
-    drop-cons t 14 0 (omega arith)
-    ∙ ap (λ (r : List ℕ). get_or t 14 0 ∷ r) (drop-cons t 15 0 (omega arith))
-    ∙ ap (λ (r : List ℕ). get_or t 14 0 ∷ get_or t 15 0 ∷ r) (drop-cons t 16 0 (omega arith)) in
-    let b : take n (drop 14 t) ≡ body (packet_in eight sys fi t) =
-    ap₂ take (sym e ∙ add-three d) a ∙ ap (λ (m : ℕ). get_or t 14 0 ∷ get_or t 15 0 ∷ m ∷ take d (drop 17 t)) (sym l) in
-    ap (λ (r : List ℕ). 0x000 ∷ 0x3FF ∷ 0x3FF ∷ (map word r ++ check (map word r) ∷ [])) (sym b)
-
 -- a turn
-module _ (sys : ℕ) (fi : Bool) (n : ℕ) (s out : List ℕ) (k at o : ℕ) (was : Wording eight sys fi n s out k at o) (h : k < n) where
-  abbrev samples : ℕ
-  samples = two_in s (at + 4)
+module _ (c : Coding) (sys : ℕ) (fi : Bool) (n : ℕ) (s out : List ℕ) (k at o : ℕ) (was : Wording c sys fi n s out k at o) (h : k < n) where
+  turned : Turn c sys fi n s k at
+  turned = turn c sys fi n s k at was.left h
 
-  turned : Turn eight sys fi n s k at
-  turned = turn eight sys fi n s k at was.left h
+  turned-whole : Whole c (drop at s)
+  turned-whole =
+      let a : array_for c (two_in (drop at s) 4) ≡ array_for c (two_in s (at + 4)) = ap (array_for c) (two-drop at 4 s) in
+      let b = four-drop at 6 s in
+      let l = length-drop at s in
+      let x = turned.inside in
+      let y = turned.enough in
+      record { there = omega arith; room = omega arith; dc = turned.dc ∙ sym (two-drop at 4 s) }
 
-  packet-long : length (words (packet_in eight sys fi (drop at s))) ≡ samples + 4
-  packet-long =
-      let a = turned.inside in
-      let b = turned.enough in
-      let d = turned.dc in
-      let u : length (packet_in eight sys fi (drop at s)).user ≡ get_or (drop at s) 16 0 =
-      length-take-le (get_or (drop at s) 16 0) (drop 17 (drop at s))
-      (let x = length-drop at s in let y = length-drop 17 (drop at s) in omega arith) in
-      packet-words (packet_in eight sys fi (drop at s)) ∙ (omega arith)
+  turned-long : length (words (packet_in c sys fi (drop at s))) ≡ two_in s (at + 4) + beside c
+  turned-long =
+      packet-words (packet_in c sys fi (drop at s))
+      ∙ packet-long c sys fi (drop at s) turned-whole
+      ∙ ap (λ (m : ℕ). m + beside c) (two-drop at 4 s)
 
-  pub eight-room : o + (samples + 4) ≤ length out
-  eight-room = wording-room eight sys fi n s out k at o was h (samples + 4) packet-long
+  pub words-room : o + (two_in s (at + 4) + beside c) ≤ length out
+  words-room = wording-room c sys fi n s out k at o was h (two_in s (at + 4) + beside c) turned-long
 
-  module _ (sr cr : ℕ) (es : sr ≡ samples) (ec : cr ≡ four_in s (at + 6)) where
-    abbrev bytes : List ℕ
-    bytes = take (at + 14 + sr - (at + 14)) (drop (at + 14) s)
+  module _ (samples next : ℕ) (es : samples ≡ two_in s (at + 4)) (en : next ≡ o + (samples + beside c)) where
+    next-is : next ≡ o + (two_in s (at + 4) + beside c)
+    next-is = en ∙ ap (λ (m : ℕ). o + (m + beside c)) es
 
-    abbrev lent : List ℕ
-    lent = take (o + sr + 4 - o) (drop o out)
+    pub words-lent-long : length (take (next - o) (drop o out)) ≡ samples + beside c
+    words-lent-long =
+        wording-lent c sys fi n s out k at o was h (two_in s (at + 4) + beside c) turned-long next next-is
+        ∙ ap (λ (m : ℕ). m + beside c) (sym es)
 
-    next-is : o + sr + 4 ≡ o + (samples + 4)
-    next-is = omega arith
-
-    same_bytes : bytes ≡ take samples (drop (at + 14) s)
-    same_bytes = let n : at + 14 + sr - (at + 14) ≡ samples = omega arith in ap (λ (m : ℕ). take m (drop (at + 14) s)) n
-
-    bytes-long : length bytes ≡ samples
-    bytes-long =
-        let a = turned.inside in
-        let b = turned.enough in
-        ap length same_bytes ∙ length-take-le samples (drop (at + 14) s) (let x = length-drop (at + 14) s in omega arith)
-
-    packet-is : words_after bytes lent ≡ words (packet_in eight sys fi (drop at s))
-    packet-is =
-        let a = turned.inside in
-        let b = turned.enough in
-        let l = wording-lent eight sys fi n s out k at o was h (samples + 4) packet-long (o + sr + 4) next-is in
-        words-after bytes lent (l ∙ ap (λ (m : ℕ). m + 4) (sym bytes-long))
-        ∙ ap (λ (b : List ℕ). framed (map word b)) same_bytes
-        ∙ ap (λ (r : List ℕ). framed (map word (take samples r))) (sym (drop-drop 14 at s))
-        ∙ sym (packet-framed sys fi (drop at s) samples turned.dc (let x = length-drop at s in omega arith))
-
-    -- the bytes' words come back
-    pub eight-more : (ys : List ℕ) → ys ≡ words_after bytes lent
-        → Wording eight sys fi n s (take o out ++ (ys ++ drop (o + sr + 4 - o) (drop o out))) (k + 1) (at + 14 + cr) (o + sr + 4)
-    eight-more ys q =
-        wording-more eight sys fi n s out k at o was h (samples + 4) packet-long (o + sr + 4) next-is ys (q ∙ packet-is) (at + 14 + cr)
-        (ap (λ (m : ℕ). at + 14 + m) ec)
+    pub words-more : (from cr : ℕ) (ys : List ℕ) → from ≡ at + 14 → cr ≡ four_in s (at + 6)
+        → ys ≡ words_by c samples (take (length s - from) (drop from s))
+        → Wording c sys fi n s (take o out ++ (ys ++ drop (next - o) (drop o out))) (k + 1) (from + cr) next
+    words-more from cr ys ef ec q =
+        let a : take (length s - from) (drop from s) ≡ drop 14 (drop at s) =
+        rest_part from s ∙ ap (λ (i : ℕ). drop i s) ef ∙ sym (drop-drop 14 at s) in
+        let p : ys ≡ words (packet_in c sys fi (drop at s)) =
+        q
+        ∙ ap₂ (λ (m : ℕ) (t : List ℕ). words_by c m t) (es ∙ sym (two-drop at 4 s)) a
+        ∙ sym (words-shown c sys fi (drop at s) turned-whole) in
+        wording-more c sys fi n s out k at o was h (two_in s (at + 4) + beside c) turned-long next next-is ys p (from + cr)
+        (ap₂ (λ (x y : ℕ). x + y) ef ec)
 
 -- ---- the sections
 
@@ -370,7 +341,7 @@ module _ (c : Coding) (sys : ℕ) (fi : Bool) (packets : ℕ) (s out : List ℕ)
   sections-room =
       let a = m.room in
       let b = sheet-length sys ps in
-      let c = words-room ps in
+      let c = words-count ps in
       let d = count-is in
       omega arith
 
@@ -446,7 +417,7 @@ module _ (c : Coding) (sys : ℕ) (fi : Bool) (e sheet : List ℕ) (j : ElementR
     pub numbers-are : j.numbers ≡ 4 + 2 * length found + length (all_words found)
     numbers-are =
         ap (λ (r : ElementRead). r.numbers) answer-is
-        ∙ (let a = sheet-length sys found in let b = words-room found in omega arith)
+        ∙ (let a = sheet-length sys found in let b = words-count found in omega arith)
 
     numbers-sheet : length (sheet_of sys found) ≡ j.numbers
     numbers-sheet = sym (ap (λ (r : ElementRead). r.numbers) answer-is)

@@ -1,26 +1,21 @@
 // 19, "an element not of this form or a line outside the frame, with the position of the first byte at fault" (document 02, A1): the
 // element is judged field by field from the left (004, tables 5 to 7).
-ghost use Rattle.std.specs.Prelude.{ℕ, ◌+◌, ◌*◌, ◌≤◌, ◌<◌, ◌≡◌, Bool, true, length};
+ghost use Rattle.std.specs.Prelude.{ℕ, ◌+◌, ◌≤◌, ◌<◌, ◌≡◌, Bool, true, length, OnOk};
 ghost use Rattle.rules.specs.Systems.{system as systemOf};
-ghost use Rattle.rules.specs.Numbers.{Outcome, refused};
-ghost use Rattle.mxf.specs.Element.{Coding, eight, luma as lumaOf, colour as colourOf, key, wrapping as wrappingOf};
-ghost use Rattle.mxf.specs.Judging.{two_in, three_in, four_in, front_then, array_then, structures, key_then, head_then, judged};
+ghost use Rattle.rules.specs.Numbers.{Outcome};
+ghost use Rattle.mxf.specs.Element.{key, wrapping as wrappingOf};
+ghost use Rattle.mxf.specs.Judging.{two_in, three_in, four_in, front_then, array_then, structures, key_then, head_then, judged_as};
 ghost use Rattle.mxf.specs.Reading.{read_of};
-ghost use Rattle.mxf.specs.Parts.{fault_or, Whole, Passes, Begun};
+ghost use Rattle.mxf.specs.Parts.{fault_or, told_judged, Whole, Passes, Begun};
 
-use crate::ElementRead;
+use crate::samples::Samples;
 use frame::{Line, wide};
 
-// On refusal the later figures are 0.
-pub fn refusal(number: u64, place: u64) -> ElementRead
-    ensures { result ≡ read_of 0 (refused number place) }
-{
-    ElementRead {
-        number,
-        place,
-        packets: 0,
-        numbers: 0,
-    }
+// How many packets an element shows, and the numbers of their sheet.
+#[derive(Clone, Copy)]
+pub struct Counted {
+    pub packets: usize,
+    pub numbers: usize,
 }
 
 // Numbers of two, three and four bytes, high byte first (004, 5.4).
@@ -45,128 +40,119 @@ pub fn four(s: &[u8], at: usize) -> usize
     wide(s[at]) * 16777216 + three(s, at + 1)
 }
 
-// How many bytes of the key stand in front: 16 where all do. The byte after them is wrong or missing.
-fn key_bytes(e: &[u8]) -> usize
-    ensures { (result ≤ 16) × ((o : Outcome) → key_then 0 key e.now o ≡ fault_or 16 result o) }
+// The key byte by byte: the place of the first that is wrong or missing.
+fn key_fault(e: &[u8]) -> Result<(), usize>
+    ensures { (o : Outcome) → key_then 0 key e.now o ≡ fault_or result o }
 {
-    let mut i = 0;
-    while i < 16 {
+    for i in 0..16 {
         if i == e.len() || e[i] != crate::KEY[i] {
-            return i;
+            return Err(i);
         }
-        i += 1;
     }
-    16
+    Ok(())
 }
 
-// Key, length and N (004, tables 5 and 6): the place of the first fault; 22, where the structures start, where there is none.
-pub fn head_fault(e: &[u8]) -> usize
-    ensures { (result ≤ 22) × ((o : Outcome) → head_then e.now o ≡ fault_or 22 result o)
-        × (result ≡ 22 → (22 ≤ length e.now) × (length e.now < 16777236)) }
+// Key, length and N (004, tables 5 and 6): the place of the first fault.
+fn head_fault(e: &[u8]) -> Result<(), usize>
+    ensures fault { (o : Outcome) → head_then e.now o ≡ fault_or result o }
+    ensures right { OnOk result ((22 ≤ length e.now) × (length e.now < 16777236)) }
 {
-    let key = key_bytes(e);
-    if key < 16 {
-        return key;
-    }
+    key_fault(e)?;
     if e.len() < 17 {
-        return e.len();
+        return Err(e.len());
     }
     if e[16] != crate::LONG_FORM {
-        return 16;
+        return Err(16);
     }
     if e.len() < 20 {
-        return e.len();
+        return Err(e.len());
     }
     if 20 + three(e, 17) != e.len() {
-        return 17;
+        return Err(17);
     }
     if e.len() < crate::HEAD {
-        return e.len();
+        return Err(e.len());
     }
-    crate::HEAD
+    Ok(())
 }
 
-// Line, wrapping and coding of a structure that starts at place `at` (004, table 7): the place of the first fault; 0 where there is none. The
-// coding is told by its two numbers, of luma and of color difference samples.
-pub fn front_fault(luma: u8, colour: u8, system: u64, last: Line, at: usize, s: &[u8]) -> usize
-    requires { (0 < at) × (at + length s.now < 4294967296) }
-    ensures { (c : Coding) → luma ≡ lumaOf c → colour ≡ colourOf c → last.0 ≡ (systemOf system).last
-        → (o : Outcome) → front_then c system at s.now o ≡ fault_or 0 result o }
+// Line, wrapping and coding of a structure that starts at place `at` (004, table 7): the place of the first fault.
+fn front_fault<S: Samples>(system: u64, last: Line, at: usize, s: &[u8]) -> Result<(), usize>
+    requires { at + length s.now < 4294967296 }
+    ensures { last.0 ≡ (systemOf system).last → (o : Outcome) → front_then S.writer.coding system at s.now o ≡ fault_or result o }
 {
     let missing = at + s.len();
     if s.len() < 2 {
-        return missing;
+        return Err(missing);
     }
     let line = two(s, 0);
     if line == 0 || (last.0 as usize) < line {
-        return at;
+        return Err(at);
     }
     if s.len() < 3 {
-        return missing;
+        return Err(missing);
     }
     if s[2] != crate::wrapping(system) {
-        return at + 2;
+        return Err(at + 2);
     }
     if s.len() < 4 {
-        return missing;
+        return Err(missing);
     }
-    if s[3] != luma && s[3] != colour {
-        return at + 3;
+    if s[3] != S::LUMA && s[3] != S::COLOUR {
+        return Err(at + 3);
     }
-    0
+    Ok(())
 }
 
-// Sample count, array and DC of a structure that starts at place `at` (004, table 7): the place of the first fault; 0 where there is none.
-// The count is of 32 bits and says nothing of the bytes that are there: it is compared with those left, so that no sum can wrap.
-fn array_fault(at: usize, s: &[u8]) -> usize
-    requires { (0 < at) × (at + length s.now < 4294967296) }
-    ensures { ((o : Outcome) → array_then eight at s.now o ≡ fault_or 0 result o) × (result ≡ 0 → Whole eight s.now) }
+// Sample count, array and DC of a structure that starts at place `at` (004, table 7): the place of the first fault. The array's count is of 32
+// bits and says nothing of the bytes that are there: it is compared with those left, so that no sum can wrap.
+fn array_fault<S: Samples>(at: usize, s: &[u8]) -> Result<(), usize>
+    requires { at + length s.now < 4294967296 }
+    ensures fault { (o : Outcome) → array_then S.writer.coding at s.now o ≡ fault_or result o }
+    ensures whole { OnOk result (Whole S.writer.coding s.now) }
 {
     let missing = at + s.len();
     if s.len() < 6 {
-        return missing;
+        return Err(missing);
     }
     let samples = two(s, 4);
-    if samples < 3 || 258 < samples {
-        return at + 4;
+    if samples < S::OTHERS || S::OTHERS + 255 < samples {
+        return Err(at + 4);
     }
     if s.len() < 10 {
-        return missing;
+        return Err(missing);
     }
     let count = four(s, 6);
-    if count < samples || s.len() < crate::FIELDS + count {
-        return at + 6;
+    if count < S::array_bytes(samples) || s.len() < crate::FIELDS + count {
+        return Err(at + 6);
     }
     if four(s, 10) != 1 {
-        return at + 10;
+        return Err(at + 10);
     }
-    if wide(s[16]) + 3 != samples {
-        return at + 16;
+    if S::dc(s) + S::OTHERS != samples {
+        return Err(at + 16);
     }
-    0
+    Ok(())
 }
 
-// A structure that starts at place `at`: the place of the first fault; 0 where there is none.
-fn structure_fault(system: u64, last: Line, at: usize, s: &[u8]) -> usize
-    requires { (0 < at) × (at + length s.now < 4294967296) }
-    ensures { (last.0 ≡ (systemOf system).last
-        → (o : Outcome) → front_then eight system at s.now (array_then eight at s.now o) ≡ fault_or 0 result o)
-        × (result ≡ 0 → Whole eight s.now) }
+// A structure that starts at place `at`: the place of the first fault.
+fn structure_fault<S: Samples>(system: u64, last: Line, at: usize, s: &[u8]) -> Result<(), usize>
+    requires { at + length s.now < 4294967296 }
+    ensures fault { last.0 ≡ (systemOf system).last → (o : Outcome)
+        → front_then S.writer.coding system at s.now (array_then S.writer.coding at s.now o) ≡ fault_or result o }
+    ensures whole { OnOk result (Whole S.writer.coding s.now) }
 {
-    let front = front_fault(crate::LUMA, crate::COLOUR, system, last, at, s);
-    if front != 0 {
-        return front;
-    }
-    array_fault(at, s)
+    front_fault::<S>(system, last, at, s)?;
+    array_fault::<S>(at, s)
 }
 
-// Whether a structure has no fault, told with fewer tests: in its first 17 bytes each field is there, DC the last. A no says nothing.
-fn is_structure(wrapping: u8, last: Line, s: &[u8]) -> bool
-    ensures whole { result ≡ true → Whole eight s.now }
+// Whether a structure has no fault, told with fewer tests: in its first bytes each field is there, DC the last. A no says nothing.
+fn is_structure<S: Samples>(wrapping: u8, last: Line, s: &[u8]) -> bool
+    ensures whole { result ≡ true → Whole S.writer.coding s.now }
     ensures passes { result ≡ true → (system : ℕ) → wrapping ≡ wrappingOf system → last.0 ≡ (systemOf system).last
-        → Passes system s.now }
+        → Passes S.writer.coding system s.now }
 {
-    if s.len() < 17 {
+    if s.len() < 16 + S::DC_BYTES {
         return false;
     }
     let line = two(s, 0);
@@ -176,15 +162,15 @@ fn is_structure(wrapping: u8, last: Line, s: &[u8]) -> bool
     if s[2] != wrapping {
         return false;
     }
-    if s[3] != crate::LUMA && s[3] != crate::COLOUR {
+    if s[3] != S::LUMA && s[3] != S::COLOUR {
         return false;
     }
     let samples = two(s, 4);
-    if samples != wide(s[16]) + 3 {
+    if samples != S::dc(s) + S::OTHERS {
         return false;
     }
     let count = four(s, 6);
-    if count < samples || s.len() - crate::FIELDS < count {
+    if count < S::array_bytes(samples) || s.len() - crate::FIELDS < count {
         return false;
     }
     four(s, 10) == 1
@@ -199,76 +185,62 @@ struct Passed {
 }
 
 // The structures in front that have no fault, up to the first of which `is_structure` says nothing: the bytes from there on, with these
-// figures, give the same answer. A packet of n samples has n + 4 words and a location.
-fn sound_structures(system: u64, last: Line, n: usize, s: &[u8]) -> Passed
+// figures, give the same answer. A packet has its words and a location.
+fn sound_structures<S: Samples>(system: u64, last: Line, n: usize, s: &[u8]) -> Passed
     requires { (n < 65536) × (length s.now < 16777216) }
-    ensures { Begun system last.0 n s.now result.count result.at result.numbers }
+    ensures { Begun S.writer.coding system last.0 n s.now result.count result.at result.numbers }
 {
     let wrapping = crate::wrapping(system);
-    let mut k = 0;
     let mut at = 0;
     let mut numbers = 4;
-    while k < n {
-        if !is_structure(wrapping, last, &s[at..]) {
+    for k in 0..n {
+        if !is_structure::<S>(wrapping, last, &s[at..]) {
             return Passed {
                 count: k,
                 at,
                 numbers,
             };
         }
-        numbers += two(s, at + 4) + 6;
+        numbers += two(s, at + 4) + (S::BESIDE + 2);
         at += crate::FIELDS + four(s, at + 6);
-        k += 1;
     }
     Passed {
-        count: k,
+        count: n,
         at,
         numbers,
     }
 }
 
-// N structures, from place 22 on: the first fault, "surplus bytes" after the last among them; or how many packets they show, and the
-// numbers of their sheet.
-fn judge_structures(system: u64, last: Line, n: usize, s: &[u8]) -> ElementRead
+// N structures, from place 22 on: the place of the first fault, "surplus bytes" after the last among them; or how many packets they show, and the
+// numbers of their sheet. Within `judge` its loop would have to share the registers.
+#[inline(never)]
+fn judge_structures<S: Samples>(system: u64, last: Line, n: usize, s: &[u8]) -> Result<Counted, usize>
     requires { (n < 65536) × (length s.now < 16777216) }
-    ensures { last.0 ≡ (systemOf system).last → (fi : Bool) → result ≡ read_of system (structures eight system fi n 22 s.now) }
+    ensures { last.0 ≡ (systemOf system).last → (fi : Bool)
+        → told_judged result ≡ read_of system (structures S.writer.coding system fi n 22 s.now) }
 {
-    let run = sound_structures(system, last, n, s);
-    let mut k = run.count;
+    let run = sound_structures::<S>(system, last, n, s);
     let mut at = run.at;
     let mut numbers = run.numbers;
-    while k < n {
-        let fault = structure_fault(system, last, crate::HEAD + at, &s[at..]);
-        if fault != 0 {
-            return refusal(19, fault as u64);
-        }
-        numbers += two(s, at + 4) + 6;
+    for k in run.count..n {
+        structure_fault::<S>(system, last, crate::HEAD + at, &s[at..])?;
+        numbers += two(s, at + 4) + (S::BESIDE + 2);
         at += crate::FIELDS + four(s, at + 6);
-        k += 1;
     }
     if at < s.len() {
-        return refusal(19, (crate::HEAD + at) as u64);
+        return Err(crate::HEAD + at);
     }
-    ElementRead {
-        number: 0,
-        place: 0,
-        packets: n as u64,
-        numbers: numbers as u64,
-    }
+    Ok(Counted {
+        packets: n,
+        numbers,
+    })
 }
 
 // 19 over the whole element.
-pub fn judge(system: u64, last: Line, e: &[u8]) -> ElementRead
-    ensures { last.0 ≡ (systemOf system).last → (fi : Bool) → result ≡ read_of system (judged system fi e.now) }
+pub fn judge<S: Samples>(system: u64, last: Line, e: &[u8]) -> Result<Counted, usize>
+    ensures { last.0 ≡ (systemOf system).last → (fi : Bool)
+        → told_judged result ≡ read_of system (judged_as S.writer.coding system fi e.now) }
 {
-    let fault = head_fault(e);
-    if fault < crate::HEAD {
-        return refusal(19, fault as u64);
-    }
-    let n = two(e, 20);
-    // Called from two places, it is compiled as a function of its own. Within this one its loop would have to share the registers.
-    if system == 3 {
-        return judge_structures(system, last, n, &e[crate::HEAD..]);
-    }
-    judge_structures(system, last, n, &e[crate::HEAD..])
+    head_fault(e)?;
+    judge_structures::<S>(system, last, two(e, 20), &e[crate::HEAD..])
 }

@@ -10,8 +10,8 @@ mod reading;
 mod samples;
 mod writing;
 
-pub use judging::{four, front_fault, head_fault, two};
-pub use reading::{allowed, read, write_locations};
+pub use judging::Counted;
+pub use reading::{read, read_list, tell_read};
 pub use samples::{Eight, Samples};
 pub use writing::{Measured, tell, write, write_list};
 
@@ -28,11 +28,6 @@ pub const HEAD: usize = 22;
 
 // Bytes of a structure before its samples: line, wrapping, coding, sample count, array count, array element length (004, table 7).
 pub const FIELDS: usize = 14;
-
-// 004, table 7, sample coding: 8-bit luma samples, 8-bit color difference samples.
-const LUMA: u8 = 4;
-
-const COLOUR: u8 = 5;
 
 // "Wrapping is VANC frame for 1080, VANC progressive frame for 720" (document 02, A1).
 pub fn wrapping(system: u64) -> u8

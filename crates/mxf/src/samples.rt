@@ -1,13 +1,16 @@
 // Samples of one coding (004, table 7, "Payload Sample Coding"): what the elements of 8-bit and of ten-bit samples differ in.
-ghost use Rattle.std.specs.Prelude.{ℕ, ◌≤◌, ◌≡◌, length, refl};
+ghost use Rattle.std.specs.Prelude.{ℕ, ◌+◌, ◌≤◌, ◌<◌, ◌≡◌, length, refl};
+ghost use Rattle.packet.specs.Run.{word_table};
 ghost use Rattle.mxf.specs.Element.{luma, colour};
-ghost use Rattle.mxf.specs.Judging.{others, array_for};
+ghost use Rattle.mxf.specs.Judging.{others, array_for, dc_in, dc_bytes};
+ghost use Rattle.mxf.specs.Parts.{beside, words_by};
 ghost use Rattle.mxf.specs.Writer.{Writer};
 ghost use Rattle.mxf.specs.Eights.{eights};
 
+use frame::wide;
 use packet::low;
 
-pub trait Samples {
+pub trait Samples: Drop {
     ghost writer: { Writer };
 
     ghost LUMA: { ℕ };
@@ -16,6 +19,10 @@ pub trait Samples {
 
     ghost OTHERS: { ℕ };
 
+    ghost BESIDE: { ℕ };
+
+    ghost DC_BYTES: { ℕ };
+
     // Luma samples, and color difference samples.
     const LUMA: u8;
 
@@ -23,6 +30,14 @@ pub trait Samples {
 
     // The samples of a packet beside its user words.
     const OTHERS: usize;
+
+    // The words of a packet beside its samples.
+    const BESIDE: usize;
+
+    // The bytes of an array that DC's sample lies in, from the third on.
+    const DC_BYTES: usize;
+
+    fn new() -> Self;
 
     // How many bytes so many samples take.
     fn array_bytes(samples: usize) -> usize
@@ -35,11 +50,28 @@ pub trait Samples {
         requires out_len { length out.old ≡ array_for writer.coding (length ws.now) }
         ensures { out.new ≡ writer.array ws.now };
 
-    ghost named: { (LUMA ≡ luma writer.coding) × (COLOUR ≡ colour writer.coding) × (OTHERS ≡ others writer.coding) };
+    // DC of a structure.
+    fn dc(s: &[u8]) -> usize
+        requires { 16 + dc_bytes writer.coding ≤ length s.now }
+        ensures { (result ≡ dc_in writer.coding s.now) × (result < 256) };
+
+    // The words of a packet from so many samples at the front of an array: "A decoder regenerating a video signal .. shall generate the required
+    // ANC packet flag words, the checksum word, parity and inverted parity-bits" (004, 7.2).
+    fn write_words(&self, samples: usize, s: &[u8], out: &mut [u16])
+        requires room { array_for writer.coding samples ≤ length s.now }
+        requires out_len { length out.old ≡ samples + beside writer.coding }
+        ensures { out.new ≡ words_by writer.coding samples s.now };
+
+    ghost named: { (LUMA ≡ luma writer.coding) × (COLOUR ≡ colour writer.coding) × (OTHERS ≡ others writer.coding)
+        × (BESIDE ≡ beside writer.coding) × (DC_BYTES ≡ dc_bytes writer.coding) };
 }
 
 // 8-bit samples, "from DID to the last user word, without CS" (document 02, A1).
-pub struct Eight;
+#[derive(Drop)]
+pub struct Eight {
+    words: [u16; 256],
+    ghost table: { words ≡ word_table },
+}
 
 impl Samples for Eight {
     ghost writer = { eights };
@@ -50,13 +82,29 @@ impl Samples for Eight {
 
     ghost OTHERS = { 3 };
 
-    ghost named = { (refl, refl, refl) };
+    ghost BESIDE = { 4 };
 
+    ghost DC_BYTES = { 1 };
+
+    ghost named = { (refl, refl, refl, refl, refl) };
+
+    // 004, table 7, sample coding: 8-bit luma samples, 8-bit color difference samples.
     const LUMA: u8 = 4;
 
     const COLOUR: u8 = 5;
 
     const OTHERS: usize = 3;
+
+    const BESIDE: usize = 4;
+
+    const DC_BYTES: usize = 1;
+
+    // A few words at a time are looked up.
+    fn new() -> Eight {
+        Eight {
+            words: packet::words(),
+        }
+    }
 
     fn array_bytes(samples: usize) -> usize {
         samples
@@ -67,5 +115,13 @@ impl Samples for Eight {
         for (i, w) in ws.iter().enumerate() {
             out[i] = low(*w);
         }
+    }
+
+    fn dc(s: &[u8]) -> usize {
+        wide(s[16])
+    }
+
+    fn write_words(&self, samples: usize, s: &[u8], out: &mut [u16]) {
+        sheet::write_words(&self.words, &s[..samples], out);
     }
 }

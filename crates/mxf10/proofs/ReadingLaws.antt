@@ -30,22 +30,6 @@ use Rattle.mxf10.proofs.Accepting.{reads}
 
 -- ---- the words of a packet
 
--- the samples of a structure without fault, behind the flag
-packet-whole : (sys : ℕ) (fi : Bool) (s : List ℕ) → Whole ten s
-    → words (packet_in ten sys fi s) ≡ 0x000 ∷ 0x3FF ∷ 0x3FF ∷ take (two_in s 4) (samples_in (drop 14 s))
-unfolding words coded check_of
-packet-whole sys fi s w =
-    let shown : List ℕ = 0x000 ∷ 0x3FF ∷ 0x3FF ∷ take (two_in s 4) (samples_in (drop 14 s)) in
-    let l = shown-long sys fi s w in
-    let d = dc-shown sys fi s w in
-    let n = w.dc in
-    let all : length shown ≤ low (get_or shown 5 0) + 7 = omega arith in
-    let none : drop (low (get_or shown 5 0) + 7) shown ≡ [] = drop_of_length-le shown all in
-    sym
-    (found-whole shown refl (omega arith)
-    ∙ ap (λ (r : List ℕ). words (found_of_words shown) ++ r) none
-    ∙ append-nil (words (found_of_words shown)))
-
 -- the flag and the samples, as they are written
 module _ (s out : List ℕ) (h : 3 ≤ length out) (k : array_for ten (length out - 3) ≤ length s) where
   abbrev three : List ℕ

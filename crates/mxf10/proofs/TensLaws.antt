@@ -1,7 +1,7 @@
 -- Ten-bit samples in bytes (004, 5.4.4): three in the high-order 30 bits of 32, by numbers of 32 bits as in the definitions, and byte by byte as
 -- in the code.
 --
--- In order: words of ten bits; four bytes; how many there are; the samples are below 1024, the bytes below 256; back; what is behind; numbers at a
+-- In order: words of ten bits; four bytes; the samples are below 1024, the bytes below 256; back; what is behind; numbers at a
 -- place; the loops of `pack` and `unpack`.
 -- Assumes nothing.
 use Prim.Native.Nat.{ℕ, zero, suc, ◌+◌, ◌-◌, ◌*◌, ◌/◌, ◌%◌, ◌≤◌, ◌<◌}
@@ -18,6 +18,7 @@ use Rattle.rules.specs.Found.{is_ten, are_ten}
 use Rattle.rules.proofs.Basics.{both, append-below, sets-append}
 use Rattle.mxf.specs.Element.{ten, four}
 use Rattle.mxf.specs.Judging.{four_in, unpacked, samples_in, array_for}
+use Rattle.mxf.proofs.Tens.{samples-length}
 use Rattle.mxf.proofs.WritingLaws.{over-all}
 use Rattle.mxf10.specs.Element.{packed, tens}
 use Rattle.mxf10.specs.FoundTens.{tens-length}
@@ -90,18 +91,6 @@ module _ (a b c d : ℕ) (hb : b < 256) (hc : c < 256) (hd : d < 256) where
 
   pub four-unpacked : unpacked number ≡ (a * 4 + b / 64) ∷ (b % 64 * 16 + c / 16) ∷ (c % 16 * 64 + d / 4) ∷ []
   four-unpacked = rw (sample-0, sample-1, sample-2)
-
--- ---- how many there are
-
-pub samples-count : (s : List ℕ) → length (samples_in s) ≡ 3 * (length s / 4)
-samples-count [] = refl
-samples-count (a ∷ []) = refl
-samples-count (a ∷ b ∷ []) = refl
-samples-count (a ∷ b ∷ c ∷ []) = refl
-samples-count (a ∷ b ∷ c ∷ d ∷ s) = let e = samples-count s in omega arith
-
-pub samples-length : (s : List ℕ) (n : ℕ) → array_for ten n ≤ length s → n ≤ length (samples_in s)
-samples-length s n h = let e = samples-count s in omega arith
 
 -- ---- the samples are below 1024, the bytes below 256
 
