@@ -28,7 +28,7 @@ use Rattle.sheet.specs.Standing.{in_front}
 use Rattle.sheet.specs.Write.{has_room, list_in}
 use Rattle.sheet.proofs.Laws.{count_at}
 use Rattle.sheet.proofs.Filling.{two-more, part-long, part-more, all-written, three_of, back_of}
-use Rattle.sheet.proofs.Filling.{sheet-before, sheet-lent, sheet-long, sheet-filled}
+use Rattle.sheet.proofs.Filling.{sheet-before, sheet-filled}
 use Rattle.mxf.specs.Served.{fi_read}
 use Rattle.mxf.specs.Element.{Coding, luma}
 use Rattle.mxf.specs.Judging.{two_in, four_in, others, array_for, size_in, dc_in, packet_in, structures, judged, judged_as}
@@ -367,14 +367,16 @@ module _ (c : Coding) (sys : ℕ) (fi : Bool) (packets : ℕ) (s out : List ℕ)
 
     -- what is lent for the words
     pub words-lent : length (take (length counted - (mid + 1)) (drop (mid + 1) counted)) ≡ length (all_words ps)
-    words-lent = sheet-lent sys packets w ps out ls count-is w-is room-is hl ∙ w-is
+    words-lent =
+        let a = before-long in
+        let b = sections-room in
+        let n = length-set before mid w in
+        let d = length-drop (mid + 1) counted in
+        length-take-le (length counted - (mid + 1)) (drop (mid + 1) counted) (omega arith) ∙ (omega arith)
 
     module _ (ws : List ℕ) (hw : ws ≡ all_words ps) where
       abbrev all : List ℕ
       all = take (mid + 1) counted ++ (ws ++ drop (length counted - (mid + 1)) (drop (mid + 1) counted))
-
-      pub sections-long : length all ≡ length out
-      sections-long = sheet-long sys packets w ps out ls count-is w-is room-is hl ws hw
 
       pub sections-written : all ≡ sheet_of sys ps
       sections-written = sheet-filled sys packets w ps out ls count-is w-is room-is hl ws hw

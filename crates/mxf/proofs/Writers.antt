@@ -22,7 +22,9 @@ use Rattle.rules.specs.Danc.{bytes_of}
 use Rattle.rules.specs.Sheet.{limit, all_words, sheet_of, system_in, locations_in, words_in}
 use Rattle.rules.specs.Numbers.{Outcome, listed, refused, unless, and_then}
 use Rattle.rules.specs.Laying.{low}
-use Rattle.rules.specs.Refusals.{number}
+use Rattle.std.specs.Prelude.{Ok, Err}
+use Rattle.rules.specs.Refusals.{number, Told, tell, told}
+use Rattle.rules.specs.declared.Refused.{Refused}
 use Rattle.rules.specs.declared.Refusal.{Refusal}
 use Rattle.rules.specs.declared.Refusal.TheVariants.{
   Packing,
@@ -56,7 +58,7 @@ use Rattle.mxf.specs.Element.{two, three, key, klv, wrapping, Coding, eight, ten
 use Rattle.mxf.specs.Judging.{others, array_for}
 use Rattle.mxf.specs.Served.{serves, served}
 use Rattle.mxf.specs.Writing.{lined, export, with_room_for, written_by, written_with, laid_by}
-use Rattle.mxf.specs.Writer.{source_by, structure_of, size_by, Writer}
+use Rattle.mxf.specs.Writer.{source_by, structure_of, size_by, Writer, told_written, tested_by, writing_by, write_by, after_by, Answered}
 use Rattle.mxf.specs.Demands.{Lined, Unwritten}
 use Rattle.mxf.specs.declared.ElementWritten.{ElementWritten}
 use Rattle.mxf.proofs.Exporting.{served-sound, served-few}
@@ -631,21 +633,6 @@ module _ (w : Writer) (sys : ℕ) (fi : Bool) (s buffer : List ℕ) {ls ws : Lis
 
 -- ---- the tests of a sheet
 
--- what writing gives back, and the element buffer afterwards
-abbrev pub writing_by : Writer → Bool → List ℕ → ℕ → Outcome
-writing_by w fi s room = with_room_for (w.make (system_in s)) room (and_then (w.tests s) (export (system_in s) fi))
-
-abbrev pub write_by : Writer → Bool → List ℕ → List ℕ → ElementWritten
-write_by w fi s buffer =
-    written_with (w.word (words_in s) (writing_by w fi s (length buffer))) (written_by (w.make (system_in s)) (writing_by w fi s (length buffer)))
-
-abbrev pub after_by : Writer → Bool → List ℕ → List ℕ → List ℕ
-after_by w fi s buffer = laid_by (w.make (system_in s)) buffer (writing_by w fi s (length buffer))
-
--- the two equations of the contract
-abbrev pub Answered : Writer → Bool → List ℕ → List ℕ → ElementWritten → List ℕ → Type 0
-Answered w fi s buffer r after = (r ≡ write_by w fi s buffer) × (after ≡ after_by w fi s buffer)
-
 -- where no word is named
 no_word : (make : List Packet → List ℕ) (o : Outcome) (n : ℕ) → n ≡ 0 → written_by make o ≡ written_with n (written_by make o)
 no_word make (listed ps) n e = ap (λ (m : ℕ). written_with m (written_by make (listed ps))) (sym e)
@@ -668,15 +655,15 @@ export-word w sys room fi ws i (p ∷ ps) qs =
     go false later e = e
 
 -- what the tests have given, as their call gives it
-pub record Named (w : Writer) (s : List ℕ) (number place word : ℕ) : Type 0 where
-  pub passed : (ps : List Packet) → w.tests s ≡ listed ps → number ≡ 0
-  pub named : (n i : ℕ) → w.tests s ≡ refused n i → (number ≡ n) × (place ≡ i) × (word ≡ w.word (words_in s) (refused n i))
+record Named (w : Writer) (s : List ℕ) (number place word : ℕ) : Type 0 where
+  passed : (ps : List Packet) → w.tests s ≡ listed ps → number ≡ 0
+  named : (n i : ℕ) → w.tests s ≡ refused n i → (number ≡ n) × (place ≡ i) × (word ≡ w.word (words_in s) (refused n i))
 
 own-system : (w : Writer) (s : List ℕ) (sys : ℕ) (ps : List Packet) → w.Sheet sys ps s → system_in s ≡ sys
 own-system w s sys ps g = ap system_in (w.whole sys ps s g) ∙ system-back sys ps
 
 module _ (w : Writer) (fi : Bool) (s buffer : List ℕ) where
-  pub no-sheet : (number place word : ℕ) → Named w s number place word → (r : ElementWritten) → (number ≡ 0 → ⊥)
+  no-sheet : (number place word : ℕ) → Named w s number place word → (r : ElementWritten) → (number ≡ 0 → ⊥)
       → r ≡ written_with word (written_by (w.make 0) (refused number place)) → Answered w fi s buffer r buffer
   no-sheet number place word t r n e = go (w.tests s) refl
     where
@@ -691,6 +678,26 @@ module _ (w : Writer) (fi : Bool) (s buffer : List ℕ) where
           let b : r ≡ written_with word (written_by (w.make 0) (refused k i)) =
           e ∙ ap₂ (λ (m j : ℕ). written_with word (written_by (w.make 0) (refused m j))) a.0 a.1 in
           (b ∙ ap (λ (m : ℕ). written_with m (written_by (w.make 0) (refused k i))) a.2, refl)
+
+  -- the refusal of its tests
+  pub sheet-refused : (e : Refused) → Err (told e) ≡ tested_by w s (w.tests s) → Answered w fi s buffer (told_written (Err e)) buffer
+  sheet-refused e h =
+      no-sheet (number e.refusal) e.place e.word
+      (record {
+        passed = λ ps q. never (let z = h ∙ ap (tested_by w s) q in cc);
+        named = λ n i q.
+            let t : told e ≡ tell n i (w.word (words_in s) (refused n i)) = let z = h ∙ ap (tested_by w s) q in cc in
+            (ap (λ (x : Told). x.number) t, ap (λ (x : Told). x.place) t, ap (λ (x : Told). x.word) t);
+      })
+      (told_written (Err e)) (number-some e.refusal) refl
+
+  -- or the list whose sheet it is
+  pub sheet-listed : (sys : ℕ) → Ok sys ≡ tested_by w s (w.tests s) → (ps : List Packet) × w.Sheet sys ps s
+  sheet-listed sys h = go (w.tests s) refl h
+    where
+      go : (o : Outcome) → w.tests s ≡ o → Ok sys ≡ tested_by w s o → (ps : List Packet) × w.Sheet sys ps s
+      go (listed ps) q z = let e : sys ≡ system_in s = cc in (ps, rw e (w.laid s ps q))
+      go (refused n i) q z = never (cc)
 
   -- the sheet is that of a list
   pub the-list : (sys : ℕ) → ((ps : List Packet) × w.Sheet sys ps s) → (r : ElementWritten) (after : List ℕ)

@@ -15,11 +15,13 @@ use Rattle.rules.specs.Systems.{System}
 use Rattle.rules.specs.Packet.{Packet, words, coded, check_of, Sound}
 use Rattle.rules.specs.Sheet.{all_words, system_in, words_in}
 use Rattle.rules.specs.Numbers.{Outcome, listed, refused}
-use Rattle.rules.specs.Laying.{low, word_at, word_in, sheet_tests}
-use Rattle.rules.specs.Lister.{tested_in, tested}
-use Rattle.rules.specs.Demands.{SheetOf, Tests}
-use Rattle.rules.specs.declared.Tested.{Tested}
-use Rattle.rules.proofs.Basics.{sets-front, sets_behind}
+use Rattle.rules.specs.Laying.{low, word_at, from_packet, word_in, sheet_tests}
+use Rattle.std.specs.Prelude.{Ok, Err}
+use Rattle.packet.specs.Tests.{told_by}
+use Rattle.sheet.specs.Telling.{header_of}
+use Rattle.sheet.specs.declared.Header.{Header}
+use Rattle.rules.specs.Refusals.{Told, tell}
+use Rattle.rules.proofs.Basics.{never, sets-front, sets_behind}
 use Rattle.rules.proofs.Words.{body_bytes, coded-length, coded-low}
 use Rattle.rules.proofs.Lister.{sheet-refused}
 use Rattle.rules.proofs.Sheets.{Sixteen, sheet-read, sheet-laid, sheet-unique}
@@ -27,12 +29,13 @@ use Rattle.sections.specs.Sections.{SectionsOf}
 use Rattle.sections.proofs.Laws.{sections-of}
 use Rattle.mxf.specs.Element.{two, three, four, key, wrapping, eight, coding, Padded, bare, samples, structure, value, klv, element, element_of}
 use Rattle.mxf.specs.Eights.{eights}
+use Rattle.mxf.specs.Writer.{tested_by, Answered}
 use Rattle.mxf.specs.Writing.{writing, write, element_after}
 use Rattle.mxf.specs.Demands.{Writes}
 use Rattle.mxf.specs.declared.ElementWritten.{ElementWritten}
 use Rattle.mxf.proofs.Elements.{structure-length}
 use Rattle.mxf.proofs.Exporting.{comes_back_lem}
-use Rattle.mxf.proofs.Writers.{Named, Answered, unwritten, sent-written, sent-only, sent_back}
+use Rattle.mxf.proofs.Writers.{unwritten, sent-written, sent-only, sent_back}
 
 -- ---- stores from the front
 
@@ -130,25 +133,23 @@ head-put packets v out {o1} {o2} {o3} room short ev e1 e2 e3 n long =
 
 -- ---- the lister's tests
 
-module _ (s : List ℕ) (t : Tested) (w : Tests s t) where
-  answer-is : (o : Outcome) → sheet_tests s ≡ o → t ≡ tested_in (system_in s) (words_in s) o
-  unfolding tested
-  answer-is o q = w.answer ∙ ap (tested_in (system_in s) (words_in s)) q
+-- of their header the system is asked for, and a refusal is told as it is
+module _ (s : List ℕ) where
+  pub system-refused : (t : Told) → Err t ≡ told_by word_at (header_of (system_in s)) (words_in s) (sheet_tests s)
+      → Err t ≡ tested_by eights s (sheet_tests s)
+  system-refused t e = go (sheet_tests s) e
+    where
+      go : (o : Outcome) → Err t ≡ told_by word_at (header_of (system_in s)) (words_in s) o → Err t ≡ tested_by eights s o
+      go (listed ps) e = never (cc)
+      go (refused n i) e = let q : t ≡ tell n i (word_at n (from_packet i (words_in s))) = cc in ap Err q
 
-  pub lister-named : Named eights s t.number t.place t.word
-  lister-named = record {
-    passed = λ ps q. ap (λ (x : Tested). x.number) (answer-is (listed ps) q);
-    named = λ n i q.
-        let a = answer-is (refused n i) q in
-        (ap (λ (x : Tested). x.number) a, ap (λ (x : Tested). x.place) a, ap (λ (x : Tested). x.word) a);
-  }
-
-  -- the sheet is that of a list, in the system that the tests name
-  pub sheet-of : t.number ≡ 0 → (ps : List Packet) × SheetOf t.system ps s
-  sheet-of z =
-      let o = w.only z in
-      let e : t.system ≡ o.0 = ap (λ (x : Tested). x.system) (w.passes o.0 o.1 o.2) in
-      (o.1, rw e o.2)
+  pub system-listed : (h : Header) → Ok h ≡ told_by word_at (header_of (system_in s)) (words_in s) (sheet_tests s)
+      → Ok h.system ≡ tested_by eights s (sheet_tests s)
+  system-listed h e = go (sheet_tests s) e
+    where
+      go : (o : Outcome) → Ok h ≡ told_by word_at (header_of (system_in s)) (words_in s) o → Ok h.system ≡ tested_by eights s o
+      go (listed ps) e = let q : h ≡ header_of (system_in s) ps = cc in ap (λ (x : Header). Ok x.system) q
+      go (refused n i) e = never (cc)
 
 -- ---- the contract
 

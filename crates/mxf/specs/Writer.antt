@@ -7,11 +7,12 @@ use Rattle.rules.specs.Base.{All, joined}
 use Rattle.rules.specs.Systems.{System, system}
 use Rattle.rules.specs.Packet.{Packet, words}
 use Rattle.rules.specs.Sheet.{limit, locations, all_words, sheet_of, system_in, locations_in, words_in}
-use Rattle.rules.specs.Numbers.{Outcome, listed, refused}
-use Rattle.rules.specs.Refusals.{number}
+use Rattle.rules.specs.Numbers.{Outcome, listed, refused, and_then}
+use Rattle.rules.specs.Refusals.{number, Told, tell}
 use Rattle.rules.specs.declared.Refused.{Refused}
 use Rattle.mxf.specs.Element.{two, four, klv, wrapping, Coding, coding_of}
 use Rattle.mxf.specs.Judging.{others, array_for}
+use Rattle.mxf.specs.Writing.{export, with_room_for, written_by, written_with, laid_by}
 use Rattle.mxf.specs.declared.ElementWritten.{ElementWritten}
 use Rattle.mxf.specs.declared.writing.Measured.{Measured}
 
@@ -83,6 +84,26 @@ pub record SectionsBy (w : Writer) (ls ws : List ℕ) : Type 0 where
   pub of : w.Of system packets ls ws
 
 -- ---- what a call gives back
+
+-- the tests of a sheet, then those of an export; what writing gives back, and the element buffer afterwards
+abbrev pub writing_by : Writer → Bool → List ℕ → ℕ → Outcome
+writing_by w fi s room = with_room_for (w.make (system_in s)) room (and_then (w.tests s) (export (system_in s) fi))
+
+abbrev pub write_by : Writer → Bool → List ℕ → List ℕ → ElementWritten
+write_by w fi s buffer =
+    written_with (w.word (words_in s) (writing_by w fi s (length buffer))) (written_by (w.make (system_in s)) (writing_by w fi s (length buffer)))
+
+abbrev pub after_by : Writer → Bool → List ℕ → List ℕ → List ℕ
+after_by w fi s buffer = laid_by (w.make (system_in s)) buffer (writing_by w fi s (length buffer))
+
+-- the two equations of the contract
+abbrev pub Answered : Writer → Bool → List ℕ → List ℕ → ElementWritten → List ℕ → Type 0
+Answered w fi s buffer r after = (r ≡ write_by w fi s buffer) × (after ≡ after_by w fi s buffer)
+
+-- the system of a sheet that passes its tests, or the refusal
+abbrev pub tested_by : Writer → List ℕ → Outcome → Result ℕ Told
+tested_by w s (listed ps) = Ok (system_in s)
+tested_by w s (refused n i) = Err (tell n i (w.word (words_in s) (refused n i)))
 
 -- as the call tells it: number 0, or a refusal
 abbrev pub told_written : Result Measured Refused → ElementWritten

@@ -11,9 +11,9 @@ mod samples;
 mod writing;
 
 pub use judging::Counted;
-pub use reading::{read, read_list, tell_read};
+pub use reading::{read, read_sheet, tell_read};
 pub use samples::{Eight, Samples};
-pub use writing::{Measured, tell, write, write_list};
+pub use writing::{Measured, tell_written, write, write_sheet};
 
 // 004, table 6.
 const KEY: [u8; 16] = [

@@ -131,7 +131,7 @@ fn written<S: Samples>(system: u64, fi: bool, j: Counted, e: &[u8], sheet: &mut 
 }
 
 // 3, 19, 20, 5, 17: what an element of these samples shows stands in the buffer, or nothing is written.
-pub fn read_list<S: Samples>(system: u64, fi: bool, element: &[u8], sheet: &mut [u16]) -> Result<Counted, Refused>
+pub fn read_sheet<S: Samples>(system: u64, fi: bool, element: &[u8], sheet: &mut [u16]) -> Result<Counted, Refused>
     ensures { Answers system sheet.old
         (reading_of system (judged_as S.writer.coding system fi element.now) (length sheet.old)) (told_read result) sheet.new }
 {
@@ -187,5 +187,5 @@ pub fn tell_read(r: Result<Counted, Refused>) -> ElementRead
 pub fn read(system: u64, fi: bool, element: &[u8], sheet: &mut [u16]) -> ElementRead
     ensures { Reads system fi element.now sheet.old result sheet.new }
 {
-    tell_read(read_list::<Eight>(system, fi, element, sheet))
+    tell_read(read_sheet::<Eight>(system, fi, element, sheet))
 }

@@ -4,11 +4,13 @@ ghost use Rattle.packet.specs.Run.{word_table};
 ghost use Rattle.mxf.specs.Element.{luma, colour};
 ghost use Rattle.mxf.specs.Judging.{others, array_for, dc_in, dc_bytes};
 ghost use Rattle.mxf.specs.Parts.{beside, words_by};
-ghost use Rattle.mxf.specs.Writer.{Writer};
+ghost use Rattle.rules.specs.Refusals.{told_of};
+ghost use Rattle.mxf.specs.Writer.{Writer, tested_by};
 ghost use Rattle.mxf.specs.Eights.{eights};
 
 use frame::wide;
 use packet::low;
+use rules::Refused;
 
 pub trait Samples: Drop {
     ghost writer: { Writer };
@@ -38,6 +40,10 @@ pub trait Samples: Drop {
     const DC_BYTES: usize;
 
     fn new() -> Self;
+
+    // The tests of a sheet whose packets are written in these samples: its system, or the refusal.
+    fn system_of(sheet: &[u16]) -> Result<u64, Refused>
+        ensures { told_of result ≡ tested_by writer sheet.now (writer.tests sheet.now) };
 
     // How many bytes so many samples take.
     fn array_bytes(samples: usize) -> usize
@@ -104,6 +110,12 @@ impl Samples for Eight {
         Eight {
             words: packet::words(),
         }
+    }
+
+    // "the lister's" tests.
+    fn system_of(sheet: &[u16]) -> Result<u64, Refused> {
+        let header = sheet::tests(sheet)?;
+        Ok(header.system)
     }
 
     fn array_bytes(samples: usize) -> usize {

@@ -8,7 +8,7 @@ ghost use Rattle.rules.specs.Packet.{Packet};
 ghost use Rattle.mxf.specs.Element.{two, three, four, key, coding_of};
 ghost use Rattle.mxf.specs.Served.{serves as servesFlags, served};
 ghost use Rattle.mxf.specs.Writing.{export, with_room_for, written_by, laid_by};
-ghost use Rattle.mxf.specs.Writer.{structure_of, SectionsBy, told_written};
+ghost use Rattle.mxf.specs.Writer.{structure_of, SectionsBy, Answered, told_written};
 ghost use Rattle.mxf.specs.Demands.{Writes};
 
 use crate::ElementWritten;
@@ -26,7 +26,7 @@ pub struct Measured {
 }
 
 // On refusal the later figures are 0. The word is the one that the tests of the sheet name (document 02, A2).
-pub fn tell(r: Result<Measured, Refused>) -> ElementWritten
+pub fn tell_written(r: Result<Measured, Refused>) -> ElementWritten
     ensures { result ≡ told_written r }
 {
     match r {
@@ -207,7 +207,7 @@ fn put_element<S: Samples>(system: u64, fi: bool, packets: u16, ls: &[u16], ws: 
 }
 
 // 18, then 17, of a sheet that has passed its tests: only then is the element written.
-pub fn write_list<S: Samples>(system: u64, fi: bool, sheet: &[u16], element: &mut [u8]) -> Result<Measured, Refused>
+fn write_list<S: Samples>(system: u64, fi: bool, sheet: &[u16], element: &mut [u8]) -> Result<Measured, Refused>
     requires { (ps : List Packet) × S.writer.Sheet system ps sheet.now }
     ensures { (ps : List Packet) → S.writer.Sheet system ps sheet.now
         → (told_written result ≡ written_by (S.writer.make system)
@@ -229,19 +229,17 @@ pub fn write_list<S: Samples>(system: u64, fi: bool, sheet: &[u16], element: &mu
     Ok(m)
 }
 
+// The tests of a sheet, 18, 17: the element of these samples is written over the front of its buffer, or nothing is.
+pub fn write_sheet<S: Samples>(sheet: &[u16], fi: bool, element: &mut [u8]) -> Result<Measured, Refused>
+    ensures { Answered S.writer fi sheet.now element.old (told_written result) element.new }
+{
+    let system = S::system_of(sheet)?;
+    write_list::<S>(system, fi, sheet, element)
+}
+
 // "Refusals: on export the lister's, 18, with the packet, for one served without a line, 17" (document 02, A1).
 pub fn write(sheet: &[u16], fi: bool, element: &mut [u8]) -> ElementWritten
     ensures { Writes fi sheet.now element.old result element.new }
 {
-    let t = sheet::test(sheet);
-    if t.number != 0 {
-        return ElementWritten {
-            number: t.number,
-            place: t.place,
-            word: t.word,
-            packets: 0,
-            bytes: 0,
-        };
-    }
-    tell(write_list::<Eight>(t.system, fi, sheet, element))
+    tell_written(write_sheet::<Eight>(sheet, fi, element))
 }

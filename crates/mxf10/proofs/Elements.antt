@@ -32,7 +32,7 @@ use Rattle.mxf10.specs.Element.{Arrayed, packets_of, source, samples, structure,
 use Rattle.mxf10.specs.Reading.{judged}
 use Rattle.mxf10.specs.Demands.{Held, Gives}
 use Rattle.mxf10.proofs.TensLaws.{samples-ten, samples-append, ten-at}
-use Rattle.mxf10.proofs.Samples.{dc-sample, shown-long, dc-shown}
+use Rattle.mxf.proofs.Tens.{dc-sample, shown-long, dc-shown}
 
 -- ---- a structure: what is written is read
 

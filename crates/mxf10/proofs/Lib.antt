@@ -2,7 +2,6 @@
 --
 --   Figures       the definitions give the elements that were written out by hand
 --   TensLaws      ten-bit samples in bytes, and each way through the code of `tens`
---   Samples       the packet of a structure has as many user words as its DC says
 --   Elements      an element is read as it was written, and what is read was written so
 --   Accepting     the contract of reading
 --   Ours          the way back of what we write
@@ -10,7 +9,6 @@
 --   WritingLaws   each way through the code of `writing` that is its own, and the contract of writing
 pub mod Figures
 pub mod TensLaws
-pub mod Samples
 pub mod Elements
 pub mod Accepting
 pub mod Ours

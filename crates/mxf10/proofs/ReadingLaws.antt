@@ -24,8 +24,7 @@ use Rattle.mxf.proofs.JudgingLaws.{two-drop, four-drop}
 use Rattle.mxf.proofs.ReadingLaws.{Turn, turn, Wording, wording-room, wording-lent, wording-more}
 use Rattle.mxf10.specs.Reading.{judged, reading, read, sheet_after}
 use Rattle.mxf10.specs.Demands.{ReadsTen}
-use Rattle.mxf10.proofs.Samples.{shown-long, dc-shown}
-use Rattle.mxf10.proofs.TensLaws.{samples-length, samples-append}
+use Rattle.mxf.proofs.Tens.{samples-length}
 use Rattle.mxf10.proofs.Accepting.{reads}
 
 -- ---- the words of a packet
@@ -71,91 +70,6 @@ module _ (s out : List ℕ) (h : 3 ≤ length out) (k : array_for ten (length ou
         head (a ∷ []) h = absurd (omega arith)
         head (a ∷ b ∷ []) h = absurd (omega arith)
         head (a ∷ b ∷ c ∷ out) h = refl
-
--- ---- the words of packets
-
--- a turn
-module _ (sys : ℕ) (fi : Bool) (n : ℕ) (s out : List ℕ) (k at o : ℕ) (was : Wording ten sys fi n s out k at o) (h : k < n) where
-  abbrev samples : ℕ
-  samples = two_in s (at + 4)
-
-  abbrev array : List ℕ
-  array = drop 14 (drop at s)
-
-  step : Turn ten sys fi n s k at
-  step = turn ten sys fi n s k at was.left h
-
-  whole : Whole ten (drop at s)
-  whole =
-      let a = two-drop at 4 s in
-      let b = four-drop at 6 s in
-      let l = length-drop at s in
-      let x = step.inside in
-      let y = step.enough in
-      record { there = omega arith; room = omega arith; dc = step.dc ∙ sym a }
-
-  packet-is : words (packet_in ten sys fi (drop at s)) ≡ 0x000 ∷ 0x3FF ∷ 0x3FF ∷ take samples (samples_in array)
-  packet-is =
-      packet-whole sys fi (drop at s) whole
-      ∙ ap (λ (m : ℕ). 0x000 ∷ 0x3FF ∷ 0x3FF ∷ take m (samples_in array)) (two-drop at 4 s)
-
-  packet-long : length (words (packet_in ten sys fi (drop at s))) ≡ samples + 3
-  packet-long =
-      ap length (packet-whole sys fi (drop at s) whole)
-      ∙ (let l = shown-long sys fi (drop at s) whole in let a = two-drop at 4 s in omega arith)
-
-  pub ten-room : o + (samples + 3) ≤ length out
-  ten-room = wording-room ten sys fi n s out k at o was h (samples + 3) packet-long
-
-  module _ (sr cr : ℕ) (es : sr ≡ samples) (ec : cr ≡ four_in s (at + 6)) where
-    abbrev bytes : List ℕ
-    bytes = take (at + 14 + cr - (at + 14)) (drop (at + 14) s)
-
-    abbrev lent : List ℕ
-    lent = take (o + sr + 3 - o) (drop o out)
-
-    next-is : o + sr + 3 ≡ o + (samples + 3)
-    next-is = omega arith
-
-    lent-long : length lent ≡ samples + 3
-    lent-long = wording-lent ten sys fi n s out k at o was h (samples + 3) packet-long (o + sr + 3) next-is
-
-    same_bytes : bytes ≡ take cr array
-    same_bytes = let n : at + 14 + cr - (at + 14) ≡ cr = omega arith in ap₂ take n (sym (drop-drop 14 at s))
-
-    bytes-long : length bytes ≡ cr
-    bytes-long =
-        let x = step.inside in
-        let l = length-drop at s in
-        let m = length-drop 14 (drop at s) in
-        ap length same_bytes ∙ length-take-le cr array (omega arith)
-
-    -- the array holds the samples that there is room for
-    pub ten-fits : (3 ≤ length lent) × (array_for ten (length lent - 3) ≤ length bytes)
-    ten-fits =
-        let l = lent-long in
-        let b = bytes-long in
-        let e = step.enough in
-        (omega arith, omega arith)
-
-    -- padding shows nothing
-    samples-are : take (length lent - 3) (samples_in bytes) ≡ take samples (samples_in array)
-    samples-are =
-        let l = lent-long in
-        let b = bytes-long in
-        let e = step.enough in
-        let m : length lent - 3 ≡ samples = omega arith in
-        let f : array_for ten samples ≤ length (take cr array) = let c = ap length same_bytes in omega arith in
-        ap₂ (λ (i : ℕ) (r : List ℕ). take i (samples_in r)) m same_bytes
-        ∙ sym (samples-append (take cr array) (drop cr array) samples f)
-        ∙ ap (λ (r : List ℕ). take samples (samples_in r)) (take-append-drop cr array)
-
-    -- the flag and the samples come back
-    pub ten-more : (ys : List ℕ) → ys ≡ 0x000 ∷ 0x3FF ∷ 0x3FF ∷ take (length lent - 3) (samples_in bytes)
-        → Wording ten sys fi n s (take o out ++ (ys ++ drop (o + sr + 3 - o) (drop o out))) (k + 1) (at + 14 + cr) (o + sr + 3)
-    ten-more ys q =
-        wording-more ten sys fi n s out k at o was h (samples + 3) packet-long (o + sr + 3) next-is ys
-        (q ∙ ap (λ (r : List ℕ). 0x000 ∷ 0x3FF ∷ 0x3FF ∷ r) samples-are ∙ sym packet-is) (at + 14 + cr) (ap (λ (m : ℕ). at + 14 + m) ec)
 
 -- ---- the answer as the definitions have it
 

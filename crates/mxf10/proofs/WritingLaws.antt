@@ -19,12 +19,13 @@ use Rattle.rules.specs.Found.{are_ten, found_word_at, found_word_in, found_tests
 use Rattle.rules.proofs.Found.{found-read, found-made, found-unique, found-refused}
 use Rattle.rules.proofs.Sheets.{Sixteen, locations-back, words_back}
 use Rattle.sections.proofs.Laws.{NextBy}
-use Rattle.found.specs.Checked.{checked_in, checked, ChecksFound}
-use Rattle.found.specs.declared.Checked.{Checked}
+use Rattle.packet.specs.Tests.{told_by}
+use Rattle.found.specs.Checked.{checked}
 use Rattle.mxf.specs.Element.{two, four, wrapping, ten, coding_of, klv}
 use Rattle.mxf.specs.Judging.{array_for}
 use Rattle.mxf.specs.declared.ElementWritten.{ElementWritten}
-use Rattle.mxf.proofs.Writers.{Named, Answered, unwritten, sent-written, sent-only, sent_back}
+use Rattle.mxf.specs.Writer.{tested_by, Answered}
+use Rattle.mxf.proofs.Writers.{unwritten, sent-written, sent-only, sent_back}
 use Rattle.mxf10.specs.Element.{tens, Arrayed, source, ours, samples, structure, value, element, element_of}
 use Rattle.mxf10.specs.Writing.{writing, write, element_after}
 use Rattle.mxf10.specs.Demands.{WritesTen}
@@ -33,25 +34,13 @@ use Rattle.mxf10.proofs.Ours.{comes_back_lem}
 
 -- ---- the tests as found
 
-module _ (s : List ℕ) (t : Checked) (w : ChecksFound s t) where
-  answer-is : (o : Outcome) → found_tests s ≡ o → t ≡ checked_in (system_in s) (words_in s) o
-  unfolding checked
-  answer-is o q = w.answer ∙ ap (checked_in (system_in s) (words_in s)) q
-
-  pub found-named : Named found_tens s t.number t.place t.word
-  found-named = record {
-    passed = λ ps q. ap (λ (x : Checked). x.number) (answer-is (listed ps) q);
-    named = λ n i q.
-        let a = answer-is (refused n i) q in
-        (ap (λ (x : Checked). x.number) a, ap (λ (x : Checked). x.place) a, ap (λ (x : Checked). x.word) a);
-  }
-
-  -- the sheet is that of a list, in the system that the tests name
-  pub sheet-of : t.number ≡ 0 → (ps : List Packet) × SheetFound t.system ps s
-  sheet-of z =
-      let o = w.only z in
-      let e : t.system ≡ o.0 = ap (λ (x : Checked). x.system) (w.passes o.0 o.1 o.2) in
-      (o.1, rw e o.2)
+pub as-tested : (s : List ℕ) → checked s ≡ tested_by found_tens s (found_tests s)
+unfolding checked
+as-tested s = go (found_tests s)
+  where
+    go : (o : Outcome) → told_by found_word_at (λ (ps : List Packet). system_in s) (words_in s) o ≡ tested_by found_tens s o
+    go (listed ps) = refl
+    go (refused n i) = refl
 
 -- ---- the contract
 

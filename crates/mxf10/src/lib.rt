@@ -1,29 +1,26 @@
 // Ten bits as found (document 02, A13; 004, 5.4.4 and 7.2): `write` makes the ANC element of a sheet as found, DID to CS of each packet in ten-bit
-// samples, `read` the sheet of such an element. What each gives is a definition of specs/; what these elements have in common with those of 8-bit
-// samples is the crate mxf's.
+// samples, `read` the sheet of such an element. What each gives is a definition of specs/; how elements are written and read, whatever their
+// samples, is the crate mxf's.
 #![tactic(auto)]
 
-ghost use Rattle.std.specs.Prelude.{◌≤◌, ◌≡◌};
-ghost use Rattle.mxf.specs.Element.{ten};
-ghost use Rattle.mxf.specs.Judging.{array_for};
+ghost use Rattle.mxf10.specs.Demands.{WritesTen, ReadsTen};
 
-mod judging;
-mod reading;
 mod tens;
-mod writing;
 
-pub use reading::read;
-pub use writing::write;
+use mxf::{ElementRead, ElementWritten};
+use tens::Ten;
 
-// 004, table 7, sample coding: 10-bit luma samples, 10-bit color difference samples.
-const LUMA: u8 = 7;
-
-const COLOUR: u8 = 8;
-
-// "4 bytes representing 3 source samples" (004, 5.4.4).
-fn array_bytes(samples: usize) -> usize
-    requires { samples ≤ 65535 }
-    ensures { result ≡ array_for ten samples }
+// "ten-bit export takes them as found and tests as A1" (document 02, A13).
+pub fn write(sheet: &[u16], fi: bool, element: &mut [u8]) -> ElementWritten
+    ensures { WritesTen fi sheet.now element.old result element.new }
 {
-    4 * ((samples + 2) / 3)
+    mxf::tell_written(mxf::write_sheet::<Ten>(sheet, fi, element))
+}
+
+// An element is accepted exactly when some list of packets as found with lines gives it, unused bits and padding aside: its sheet then stands in
+// the buffer, or nothing is written.
+pub fn read(system: u64, fi: bool, element: &[u8], sheet: &mut [u16]) -> ElementRead
+    ensures { ReadsTen system fi element.now sheet.old result sheet.new }
+{
+    mxf::tell_read(mxf::read_sheet::<Ten>(system, fi, element, sheet))
 }

@@ -7,7 +7,9 @@ ghost use Rattle.mxf.specs.Judging.{array_for, samples_in};
 ghost use Rattle.mxf10.specs.Element.{packed, tens};
 ghost use Rattle.mxf10.specs.FoundTens.{found_tens};
 
+use frame::wide;
 use mxf::Samples;
+use rules::Refused;
 
 // Three samples to four bytes.
 fn put_three(a: u16, b: u16, c: u16, out: &mut [u8], at: usize)
@@ -85,6 +87,7 @@ pub fn unpack(s: &[u8], out: &mut [u16])
 }
 
 // DID to CS of a packet as found, bit for bit (document 02, A13; 004, 7.2).
+#[derive(Drop)]
 pub struct Ten;
 
 impl Samples for Ten {
@@ -96,7 +99,11 @@ impl Samples for Ten {
 
     ghost OTHERS = { 4 };
 
-    ghost named = { (refl, refl, refl) };
+    ghost BESIDE = { 3 };
+
+    ghost DC_BYTES = { 2 };
+
+    ghost named = { (refl, refl, refl, refl, refl) };
 
     // 004, table 7, sample coding: 10-bit luma samples, 10-bit color difference samples.
     const LUMA: u8 = 7;
@@ -105,6 +112,18 @@ impl Samples for Ten {
 
     const OTHERS: usize = 4;
 
+    const BESIDE: usize = 3;
+
+    const DC_BYTES: usize = 2;
+
+    fn new() -> Ten {
+        Ten
+    }
+
+    fn system_of(sheet: &[u16]) -> Result<u64, Refused> {
+        found::test(sheet)
+    }
+
     // "4 bytes representing 3 source samples" (004, 5.4.4).
     fn array_bytes(samples: usize) -> usize {
         4 * ((samples + 2) / 3)
@@ -112,5 +131,18 @@ impl Samples for Ten {
 
     fn put_samples(ws: &[u16], out: &mut [u8]) {
         pack(ws, out)
+    }
+
+    // Its low byte lies in bits 9 to 2 of the array's third and fourth byte.
+    fn dc(s: &[u8]) -> usize {
+        (wide(s[16]) * 256 + wide(s[17])) / 4 % 256
+    }
+
+    // "This allows faithful bit-accurate reproduction of the source sample words": DID to CS as they stand in the array, behind the flag.
+    fn write_words(&self, samples: usize, s: &[u8], out: &mut [u16]) {
+        out[0] = 0x000;
+        out[1] = 0x3FF;
+        out[2] = 0x3FF;
+        unpack(s, &mut out[3..]);
     }
 }

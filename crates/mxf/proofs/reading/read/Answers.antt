@@ -1,4 +1,4 @@
--- The contract follows from what the list's reading gives. Assumes nothing.
+-- The contract follows from what reading of these samples gives. Assumes nothing.
 use Rattle.mxf.proofs.ReadingLaws.{answered}
 use Rattle.mxf.proofs.reading.read.Goals as goal
 
@@ -6,4 +6,4 @@ pub returns : goal.returns
 returns c =
     let a = c.args in
     rw c.tell_read.ensures
-    (answered a.system a.fi a.element.now a.sheet.now _ _ (λ i. (c.type_inv.element i).fits) c.read_list.ensures)
+    (answered a.system a.fi a.element.now a.sheet.now _ _ (λ i. (c.type_inv.element i).fits) c.read_sheet.ensures)

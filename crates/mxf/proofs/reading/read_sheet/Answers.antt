@@ -7,7 +7,7 @@ use Rattle.frame.proofs.Laws.{last-is, found_known, found_is, found_none}
 use Rattle.mxf.specs.Judging.{judged_as}
 use Rattle.mxf.specs.Parts.{told_judged, told_read}
 use Rattle.mxf.proofs.ReadingLaws.{unknown-system, known-system, refused-before, head-there, structs-are, not-allowed, all-allowed}
-use Rattle.mxf.proofs.reading.read_list.Goals as goal
+use Rattle.mxf.proofs.reading.read_sheet.Goals as goal
 
 pub returns-in_default : goal.returns-in_default
 returns-in_default g c =
