@@ -171,11 +171,7 @@ fn put_key(out: &mut [u8])
     requires { 16 ≤ length out.old }
     ensures { out.new ≡ sets out.old 0 key }
 {
-    let mut i = 0;
-    while i < 16 {
-        out[i] = crate::KEY[i];
-        i += 1;
-    }
+    out[..16].copy_from_slice(&crate::KEY);
 }
 
 // Key, length and N (004, tables 5 and 6). "The value of the length property shall be the length of the ANC Element Value": of the bytes
