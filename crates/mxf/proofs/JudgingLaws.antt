@@ -392,38 +392,38 @@ eight-long sys fi s w =
 
 -- the structure at a place, by its tests
 module _ (c : Coding) (sys : ℕ) (fi : Bool) (n k at numbers : ℕ) (s : List ℕ) (h : k < n) where
-    abbrev t : List ℕ
-    t = drop at s
+  abbrev t : List ℕ
+  t = drop at s
 
-    abbrev tests : Outcome → Outcome
-    tests o = front_then c sys (22 + at) (take (length s - at) (drop at s)) (array_then c (22 + at) (take (length s - at) (drop at s)) o)
+  abbrev tests : Outcome → Outcome
+  tests o = front_then c sys (22 + at) (take (length s - at) (drop at s)) (array_then c (22 + at) (take (length s - at) (drop at s)) o)
 
-    abbrev later : Outcome
-    later = also (packet_in c sys fi t) (structures c sys fi (n - (k + 1)) (22 + at + size_in t) (drop (size_in t) t))
+  abbrev later : Outcome
+  later = also (packet_in c sys fi t) (structures c sys fi (n - (k + 1)) (22 + at + size_in t) (drop (size_in t) t))
 
-    turn : (o : Outcome) → tests later ≡ o → structures c sys fi (n - k) (22 + at) t ≡ o
-    turn o q =
-        let e : n - k ≡ suc (n - (k + 1)) = omega arith in
-        rw e (rw (rest_part at s) at q)
+  turn : (o : Outcome) → tests later ≡ o → structures c sys fi (n - k) (22 + at) t ≡ o
+  turn o q =
+      let e : n - k ≡ suc (n - (k + 1)) = omega arith in
+      rw e (rw (rest_part at s) at q)
 
-    pub at-fault : (place : ℕ) → ((o : Outcome) → tests o ≡ refused 19 place)
-        → read_of 0 (refused 19 place) ≡ whole_from c sys fi n k at numbers s
-    at-fault place q = sym (ap (add_to k numbers) (turn (refused 19 place) (q later)))
+  pub at-fault : (place : ℕ) → ((o : Outcome) → tests o ≡ refused 19 place)
+      → read_of 0 (refused 19 place) ≡ whole_from c sys fi n k at numbers s
+  at-fault place q = sym (ap (add_to k numbers) (turn (refused 19 place) (q later)))
 
-    -- the sheet numbers of its packet: samples, the words beside them, and a location
-    pub at_next : ((o : Outcome) → tests o ≡ o) → (beside : ℕ) → bytes_of (packet_in c sys fi t) ≡ two_in t 4 + beside
-        → (two four : ℕ) → two ≡ two_in s (at + 4) → four ≡ four_in s (at + 6)
-        → whole_from c sys fi n (k + 1) (at + (14 + four)) (numbers + (two + (beside + 2))) s ≡ whole_from c sys fi n k at numbers s
-    at_next q beside long two four d e =
-        let x = two-drop at 4 s in
-        let a : numbers + (2 + bytes_of (packet_in c sys fi t)) ≡ numbers + (two + (beside + 2)) = omega arith in
-        let b : size_in t ≡ 14 + four = ap (λ (m : ℕ). 14 + m) (four-drop at 6 s ∙ sym e) in
-        let p : 22 + at + size_in t ≡ 22 + (at + (14 + four)) = omega arith in
-        let r : drop (size_in t) t ≡ drop (at + (14 + four)) s = drop-drop (size_in t) at s ∙ ap (λ (m : ℕ). drop (at + m) s) b in
-        sym
-        (ap (add_to k numbers) (turn later (q later))
-        ∙ add-also k numbers (packet_in c sys fi t) (structures c sys fi (n - (k + 1)) (22 + at + size_in t) (drop (size_in t) t))
-        ∙ (λ i. add_to (k + 1) (a i) (structures c sys fi (n - (k + 1)) (p i) (r i))))
+  -- the sheet numbers of its packet: samples, the words beside them, and a location
+  pub at_next : ((o : Outcome) → tests o ≡ o) → (beside : ℕ) → bytes_of (packet_in c sys fi t) ≡ two_in t 4 + beside
+      → (two four : ℕ) → two ≡ two_in s (at + 4) → four ≡ four_in s (at + 6)
+      → whole_from c sys fi n (k + 1) (at + (14 + four)) (numbers + (two + (beside + 2))) s ≡ whole_from c sys fi n k at numbers s
+  at_next q beside long two four d e =
+      let x = two-drop at 4 s in
+      let a : numbers + (2 + bytes_of (packet_in c sys fi t)) ≡ numbers + (two + (beside + 2)) = omega arith in
+      let b : size_in t ≡ 14 + four = ap (λ (m : ℕ). 14 + m) (four-drop at 6 s ∙ sym e) in
+      let p : 22 + at + size_in t ≡ 22 + (at + (14 + four)) = omega arith in
+      let r : drop (size_in t) t ≡ drop (at + (14 + four)) s = drop-drop (size_in t) at s ∙ ap (λ (m : ℕ). drop (at + m) s) b in
+      sym
+      (ap (add_to k numbers) (turn later (q later))
+      ∙ add-also k numbers (packet_in c sys fi t) (structures c sys fi (n - (k + 1)) (22 + at + size_in t) (drop (size_in t) t))
+      ∙ (λ i. add_to (k + 1) (a i) (structures c sys fi (n - (k + 1)) (p i) (r i))))
 
 -- ---- the element
 

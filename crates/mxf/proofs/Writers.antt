@@ -19,7 +19,7 @@ use Rattle.rules.specs.Base.{joined, All, none, one}
 use Rattle.rules.specs.Systems.{System, system}
 use Rattle.rules.specs.Packet.{Packet, words, coded, check_of}
 use Rattle.rules.specs.Danc.{bytes_of}
-use Rattle.rules.specs.Sheet.{limit, all_words, sheet_of, system_in, locations_in, words_in}
+use Rattle.rules.specs.Sheet.{limit, all_words, system_in, locations_in, words_in}
 use Rattle.rules.specs.Numbers.{Outcome, listed, refused, unless, and_then}
 use Rattle.rules.specs.Laying.{low}
 use Rattle.std.specs.Prelude.{Ok, Err}
@@ -54,7 +54,7 @@ use Rattle.rules.proofs.Words.{coded-length}
 use Rattle.rules.proofs.Sheets.{system-back}
 use Rattle.sheet.proofs.Filling.{part-kept, part-front}
 use Rattle.sections.proofs.Laws.{LeftBy, NextBy, next-of-by, next-inside-by}
-use Rattle.mxf.specs.Element.{two, three, key, klv, wrapping, Coding, eight, ten}
+use Rattle.mxf.specs.Element.{two, three, key, wrapping, Coding, eight, ten}
 use Rattle.mxf.specs.Judging.{others, array_for}
 use Rattle.mxf.specs.Served.{serves, served}
 use Rattle.mxf.specs.Writing.{lined, export, with_room_for, written_by, written_with, laid_by}

@@ -2,38 +2,30 @@
 --
 -- In order: stores from the front; a structure; the head; the writer; the lister's tests; the contract.
 -- Assumes nothing.
-use Prim.Native.Nat.{ℕ, ◌+◌, ◌-◌, ◌*◌, ◌/◌, ◌%◌, ◌≤◌, ◌<◌}
+use Prim.Native.Nat.{ℕ, ◌+◌, ◌-◌, ◌/◌, ◌%◌, ◌≤◌, ◌<◌}
 use mathlib.Core.Path.{◌≡◌, refl, sym, ap, ap₂, ◌∙◌}
 use mathlib.Core.Bool.{Bool}
-use mathlib.Core.List.{List, [], ◌∷◌, ◌++◌, map, append_assoc, append-nil}
+use mathlib.Core.List.{List, [], ◌∷◌, ◌++◌, append-nil}
 use native.Mathlib.Omega.{arith}
 use native.Mathlib.Numerals.{add-one}
-use lib.ListN.{length, get_or, take, drop, set, drop_of_length-le, take-append-drop, length-map}
-use lib.Seq.{sets, sets-eq, length-sets, drop-cons, drop-drop, take_at}
-use Rattle.rules.specs.Base.{joined}
-use Rattle.rules.specs.Systems.{System}
-use Rattle.rules.specs.Packet.{Packet, words, coded, check_of, Sound}
-use Rattle.rules.specs.Sheet.{all_words, system_in, words_in}
+use lib.ListN.{length, get_or, take, drop, set, drop_of_length-le, take-append-drop}
+use lib.Seq.{sets, sets-eq, length-sets, drop-cons, drop-drop}
+use Rattle.rules.specs.Sheet.{system_in, words_in}
 use Rattle.rules.specs.Numbers.{Outcome, listed, refused}
-use Rattle.rules.specs.Laying.{low, word_at, from_packet, word_in, sheet_tests}
+use Rattle.rules.specs.Laying.{word_at, from_packet, sheet_tests}
 use Rattle.std.specs.Prelude.{Ok, Err}
 use Rattle.packet.specs.Tests.{told_by}
 use Rattle.sheet.specs.Telling.{header_of}
 use Rattle.sheet.specs.declared.Header.{Header}
 use Rattle.rules.specs.Refusals.{Told, tell}
 use Rattle.rules.proofs.Basics.{never, sets-front, sets_behind}
-use Rattle.rules.proofs.Words.{body_bytes, coded-length, coded-low}
-use Rattle.rules.proofs.Lister.{sheet-refused}
-use Rattle.rules.proofs.Sheets.{Sixteen, sheet-read, sheet-laid, sheet-unique}
-use Rattle.sections.specs.Sections.{SectionsOf}
-use Rattle.sections.proofs.Laws.{sections-of}
-use Rattle.mxf.specs.Element.{two, three, four, key, wrapping, eight, coding, Padded, bare, samples, structure, value, klv, element, element_of}
+use Rattle.rules.proofs.Sheets.{Sixteen}
+use Rattle.mxf.specs.Element.{two, three, four, key}
 use Rattle.mxf.specs.Eights.{eights}
 use Rattle.mxf.specs.Writer.{tested_by, Answered}
 use Rattle.mxf.specs.Writing.{writing, write, element_after}
 use Rattle.mxf.specs.Demands.{Writes}
 use Rattle.mxf.specs.declared.ElementWritten.{ElementWritten}
-use Rattle.mxf.proofs.Elements.{structure-length}
 use Rattle.mxf.proofs.Exporting.{comes_back_lem}
 use Rattle.mxf.proofs.Writers.{unwritten, sent-written, sent-only, sent_back}
 

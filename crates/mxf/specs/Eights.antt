@@ -7,7 +7,7 @@ use Rattle.std.proofs.Common.{refl, arith}
 use Rattle.std.proofs.lemmas.List.{length-append, length-map, append-nil, take_at}
 use Rattle.rules.specs.Base.{joined}
 use Rattle.rules.specs.Systems.{System}
-use Rattle.rules.specs.Packet.{Packet, words, coded, check_of, body, Sound}
+use Rattle.rules.specs.Packet.{Packet, words, coded, check_of, Sound}
 use Rattle.rules.specs.Numbers.{refused}
 use Rattle.rules.specs.Laying.{low, word_at, word_in, sheet_tests}
 use Rattle.rules.specs.Demands.{SheetOf}
@@ -16,7 +16,7 @@ use Rattle.rules.proofs.Lister.{sheet-refused}
 use Rattle.rules.proofs.Sheets.{sheet-read, sheet-laid, sheet-unique}
 use Rattle.sections.specs.Sections.{SectionsOf}
 use Rattle.sections.proofs.Laws.{sections-of}
-use Rattle.mxf.specs.Element.{two, four, wrapping, eight, coding, Padded, bare, samples, structure, value, klv, element, element_of}
+use Rattle.mxf.specs.Element.{two, wrapping, eight, coding, Padded, bare, samples, structure, value, klv, element, element_of}
 use Rattle.mxf.specs.Writer.{source_by, structure_of, size_by, Writer}
 
 -- the words from DID to the last user word

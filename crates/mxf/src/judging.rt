@@ -214,7 +214,12 @@ fn sound_structures<S: Samples>(system: u64, last: Line, n: usize, s: &[u8]) -> 
 // N structures, from place 22 on: the place of the first fault, "surplus bytes" after the last among them; or how many packets they show, and the
 // numbers of their sheet. Within `judge` its loop would have to share the registers.
 #[inline(never)]
-fn judge_structures<S: Samples>(system: u64, last: Line, n: usize, s: &[u8]) -> Result<Counted, usize>
+fn judge_structures<S: Samples>(
+    system: u64,
+    last: Line,
+    n: usize,
+    s: &[u8],
+) -> Result<Counted, usize>
     requires { (n < 65536) × (length s.now < 16777216) }
     ensures { last.0 ≡ (systemOf system).last → (fi : Bool)
         → told_judged result ≡ read_of system (structures S.writer.coding system fi n 22 s.now) }

@@ -107,7 +107,13 @@ fn allowed(last: Line, n: usize, s: &[u8]) -> usize
 }
 
 // 5 at the limit's place, then 17, "W over 65,535 too", of an element that has been judged: only then is the sheet written.
-fn written<S: Samples>(system: u64, fi: bool, j: Counted, e: &[u8], sheet: &mut [u16]) -> Result<Counted, Refused>
+fn written<S: Samples>(
+    system: u64,
+    fi: bool,
+    j: Counted,
+    e: &[u8],
+    sheet: &mut [u16],
+) -> Result<Counted, Refused>
     requires { (system ≤ 3) × (told_read (Ok j) ≡ read_of system (judged_as S.writer.coding system fi e.now)) }
     ensures { Answers system sheet.old
         (and_then (judged_as S.writer.coding system fi e.now) (last_tests system (length sheet.old))) (told_read result) sheet.new }
@@ -126,12 +132,23 @@ fn written<S: Samples>(system: u64, fi: bool, j: Counted, e: &[u8], sheet: &mut 
             word: 0,
         });
     }
-    write_sections::<S>(system, fi, j.packets, &e[crate::HEAD..], &mut sheet[..j.numbers]);
+    write_sections::<S>(
+        system,
+        fi,
+        j.packets,
+        &e[crate::HEAD..],
+        &mut sheet[..j.numbers],
+    );
     Ok(j)
 }
 
 // 3, 19, 20, 5, 17: what an element of these samples shows stands in the buffer, or nothing is written.
-pub fn read_sheet<S: Samples>(system: u64, fi: bool, element: &[u8], sheet: &mut [u16]) -> Result<Counted, Refused>
+pub fn read_sheet<S: Samples>(
+    system: u64,
+    fi: bool,
+    element: &[u8],
+    sheet: &mut [u16],
+) -> Result<Counted, Refused>
     ensures { Answers system sheet.old
         (reading_of system (judged_as S.writer.coding system fi element.now) (length sheet.old)) (told_read result) sheet.new }
 {

@@ -131,7 +131,14 @@ fn put_structure<S: Samples>(line: Line, wrapping: u8, flags: u16, ws: &[u16], o
 {
     let samples = ws.len();
     let array = S::array_bytes(samples) as u16;
-    put_fields(line, wrapping, coding_of::<S>(flags), samples as u16, array, out);
+    put_fields(
+        line,
+        wrapping,
+        coding_of::<S>(flags),
+        samples as u16,
+        array,
+        out,
+    );
     S::put_samples(ws, &mut out[crate::FIELDS..]);
 }
 
@@ -190,7 +197,14 @@ pub fn put_head(packets: u16, out: &mut [u8])
 }
 
 // The element of the served packets, over the whole of a buffer that is as long as the element.
-fn put_element<S: Samples>(system: u64, fi: bool, packets: u16, ls: &[u16], ws: &[u16], out: &mut [u8])
+fn put_element<S: Samples>(
+    system: u64,
+    fi: bool,
+    packets: u16,
+    ls: &[u16],
+    ws: &[u16],
+    out: &mut [u8],
+)
     requires sections { SectionsBy S.writer ls.now ws.now }
     requires packets_value { (y : System) (ps : List Packet) → S.writer.Of y ps ls.now ws.now
         → (packets ≡ length (served system fi ps)) × (length out.old ≡ length (S.writer.make system (served system fi ps)))
@@ -203,7 +217,12 @@ fn put_element<S: Samples>(system: u64, fi: bool, packets: u16, ls: &[u16], ws: 
 }
 
 // 18, then 17, of a sheet that has passed its tests: only then is the element written.
-fn write_list<S: Samples>(system: u64, fi: bool, sheet: &[u16], element: &mut [u8]) -> Result<Measured, Refused>
+fn write_list<S: Samples>(
+    system: u64,
+    fi: bool,
+    sheet: &[u16],
+    element: &mut [u8],
+) -> Result<Measured, Refused>
     requires { (ps : List Packet) × S.writer.Sheet system ps sheet.now }
     ensures { (ps : List Packet) → S.writer.Sheet system ps sheet.now
         → (told_written result ≡ written_by (S.writer.make system)
@@ -221,12 +240,23 @@ fn write_list<S: Samples>(system: u64, fi: bool, sheet: &[u16], element: &mut [u
             word: 0,
         });
     }
-    put_element::<S>(system, fi, m.packets as u16, ls, ws, &mut element[..m.bytes]);
+    put_element::<S>(
+        system,
+        fi,
+        m.packets as u16,
+        ls,
+        ws,
+        &mut element[..m.bytes],
+    );
     Ok(m)
 }
 
 // The tests of a sheet, 18, 17: the element of these samples is written over the front of its buffer, or nothing is.
-pub fn write_sheet<S: Samples>(sheet: &[u16], fi: bool, element: &mut [u8]) -> Result<Measured, Refused>
+pub fn write_sheet<S: Samples>(
+    sheet: &[u16],
+    fi: bool,
+    element: &mut [u8],
+) -> Result<Measured, Refused>
     ensures { Answered S.writer fi sheet.now element.old (told_written result) element.new }
 {
     let system = S::system_of(sheet)?;

@@ -2,22 +2,19 @@
 -- Assumes nothing.
 use Prim.Native.Nat.{ℕ, ◌+◌, ◌*◌, ◌/◌, ◌≤◌}
 use mathlib.Core.Path.{◌≡◌, refl, sym, ap, ◌∙◌, subst}
-use mathlib.Core.Bool.{Bool, true}
-use mathlib.Core.List.{List, [], ◌∷◌, ◌++◌, map}
+use mathlib.Core.Bool.{Bool}
+use mathlib.Core.List.{List, [], ◌∷◌, map}
 use native.Mathlib.Omega.{arith}
-use lib.Dec.{ltb}
-use lib.ListN.{length, get_or, take, drop, length-append}
+use lib.ListN.{length, take, length-append}
 use Rattle.rules.specs.Base.{All, none, one, joined}
 use Rattle.rules.specs.Systems.{System, system}
-use Rattle.rules.specs.Packet.{Packet, coded, check_of, words, Found}
+use Rattle.rules.specs.Packet.{Packet, coded, check_of, Found}
 use Rattle.rules.specs.Sheet.{limit, sheet_of}
 use Rattle.rules.specs.Numbers.{listed}
-use Rattle.rules.specs.Laying.{flagged, dc_in}
 use Rattle.rules.specs.Reading.{buffer_of}
-use Rattle.rules.specs.Found.{is_ten, are_ten, found_fault, SheetFound}
-use Rattle.rules.proofs.Words.{coded-length, dc-low, coded-taken, check-taken, passed}
+use Rattle.rules.specs.Found.{SheetFound}
 use Rattle.rules.proofs.Sheets.{Sixteen}
-use Rattle.rules.proofs.Found.{ten-append, ten-parts, found-fine, found-moved}
+use Rattle.rules.proofs.Found.{found-moved}
 use Rattle.sheet.specs.Write.{has_room}
 use Rattle.mxf.specs.Served.{served, fi_read, given_back, all_back}
 use Rattle.mxf.specs.Judging.{samples_in}

@@ -2,26 +2,20 @@
 --
 -- In order: the words of a packet; the words of packets; the answer.
 -- Assumes nothing.
-use Prim.Native.Nat.{ℕ, ◌+◌, ◌-◌, ◌≤◌, ◌<◌}
+use Prim.Native.Nat.{ℕ, ◌-◌, ◌≤◌}
 use mathlib.Core.Path.{◌≡◌, refl, sym, ap, ap₂, ◌∙◌, subst}
 use mathlib.Core.Bool.{Bool}
 use mathlib.Core.List.{List, [], ◌∷◌, ◌++◌, append-nil}
 use native.Mathlib.Omega.{arith}
-use lib.ListN.{length, get_or, take, drop, length-drop, length-set, take-append-drop, drop_of_length-le}
-use lib.Seq.{length-take-le, drop-drop}
+use lib.ListN.{length, take, drop, length-drop, length-set, drop_of_length-le}
+use lib.Seq.{length-take-le}
 use Rattle.rules.specs.Base.{Bytes}
-use Rattle.rules.specs.Packet.{coded, check_of, words}
-use Rattle.rules.specs.Laying.{low}
-use Rattle.rules.specs.Found.{found_of_words}
-use Rattle.rules.proofs.Found.{found-whole}
 use Rattle.sheet.proofs.Filling.{part-kept, three_of}
 use Rattle.mxf.specs.Element.{ten}
-use Rattle.mxf.specs.Judging.{two_in, four_in, samples_in, array_for, packet_in}
+use Rattle.mxf.specs.Judging.{samples_in, array_for}
 use Rattle.mxf.specs.Reading.{reading_of}
-use Rattle.mxf.specs.Parts.{Whole, Answers}
+use Rattle.mxf.specs.Parts.{Answers}
 use Rattle.mxf.specs.declared.ElementRead.{ElementRead}
-use Rattle.mxf.proofs.JudgingLaws.{two-drop, four-drop}
-use Rattle.mxf.proofs.ReadingLaws.{Turn, turn, Wording, wording-room, wording-lent, wording-more}
 use Rattle.mxf10.specs.Reading.{judged, reading, read, sheet_after}
 use Rattle.mxf10.specs.Demands.{ReadsTen}
 use Rattle.mxf.proofs.Tens.{samples-length}

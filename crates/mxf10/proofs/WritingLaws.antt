@@ -2,31 +2,21 @@
 --
 -- In order: the tests as found; the contract.
 -- Assumes nothing.
-use Prim.Native.Nat.{ℕ, ◌+◌, ◌-◌, ◌≤◌}
-use mathlib.Core.Path.{◌≡◌, refl, sym, ap, ◌∙◌}
-use mathlib.Core.Bool.{Bool, true}
-use mathlib.Core.List.{List, ◌∷◌, ◌++◌, map}
-use native.Mathlib.Omega.{arith}
-use lib.ListN.{length, get_or, take, drop}
-use lib.Seq.{drop-drop, take_at}
-use Rattle.rules.specs.Base.{joined}
-use Rattle.rules.specs.Systems.{System, system}
-use Rattle.rules.specs.Packet.{Packet, words, Found}
-use Rattle.rules.specs.Sheet.{all_words, system_in, locations_in, words_in}
+use Prim.Native.Nat.{ℕ}
+use mathlib.Core.Path.{◌≡◌, refl}
+use mathlib.Core.Bool.{Bool}
+use mathlib.Core.List.{List}
+use lib.ListN.{take}
+use Rattle.rules.specs.Packet.{Packet}
+use Rattle.rules.specs.Sheet.{system_in, words_in}
 use Rattle.rules.specs.Numbers.{Outcome, listed, refused}
-use Rattle.rules.specs.Laying.{low, word_at}
-use Rattle.rules.specs.Found.{are_ten, found_word_at, found_word_in, found_tests, SheetFound}
-use Rattle.rules.proofs.Found.{found-read, found-made, found-unique, found-refused}
-use Rattle.rules.proofs.Sheets.{Sixteen, locations-back, words_back}
-use Rattle.sections.proofs.Laws.{NextBy}
+use Rattle.rules.specs.Found.{found_word_at, found_tests}
+use Rattle.rules.proofs.Sheets.{Sixteen}
 use Rattle.packet.specs.Tests.{told_by}
 use Rattle.found.specs.Checked.{checked}
-use Rattle.mxf.specs.Element.{two, four, wrapping, ten, coding_of, klv}
-use Rattle.mxf.specs.Judging.{array_for}
 use Rattle.mxf.specs.declared.ElementWritten.{ElementWritten}
 use Rattle.mxf.specs.Writer.{tested_by, Answered}
 use Rattle.mxf.proofs.Writers.{unwritten, sent-written, sent-only, sent_back}
-use Rattle.mxf10.specs.Element.{tens, Arrayed, source, ours, samples, structure, value, element, element_of}
 use Rattle.mxf10.specs.Writing.{writing, write, element_after}
 use Rattle.mxf10.specs.Demands.{WritesTen}
 use Rattle.mxf10.specs.FoundTens.{found_tens}

@@ -29,7 +29,7 @@ returns-then-samples-OTHERS-clause-fault g c = λ o.
     let n = g.met.S.Samples.named.2 in
     let e = c.two-samples.ensures.0 in
     elim c.then-samples-OTHERS.branch [
-      then-samples-OTHERS-via-then-samples-OTHERS w ↦
+      | then-samples-OTHERS-via-then-samples-OTHERS w ↦
           too_few k _ _ o c.if-s-lt6.false (let l = w.if-samples-OTHERS.true in omega arith)
       | then-samples-OTHERS-via-else-samples-OTHERS+then-OTHERS-samples w ↦
           too_many k _ _ o c.if-s-lt6.false (let l = w.if-OTHERS-samples.true in omega arith)
@@ -50,7 +50,7 @@ returns-then-count-array_bytes-clause-fault g c = λ o.
     let f = c.four-count.ensures.0 in
     let x = c.array_bytes.ensures ∙ ap (array_for k) e in
     elim c.then-count-array_bytes.branch [
-      then-count-array_bytes-via-then-count-array_bytes w ↦
+      | then-count-array_bytes-via-then-count-array_bytes w ↦
           array-small k _ _ o c.if-s-lt6.false (omega arith) (omega arith) c.if-s-lt10.false
           (let l = w.if-count-array_bytes.true in omega arith)
       | then-count-array_bytes-via-else-count-array_bytes+then-s-count w ↦

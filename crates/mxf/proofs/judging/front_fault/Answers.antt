@@ -1,5 +1,5 @@
 -- Line, wrapping and coding, each missing, wrong or right. Assumes nothing.
-use Rattle.std.proofs.Common.{◌≡◌, ◌∙◌, sym, arith}
+use Rattle.std.proofs.Common.{◌∙◌, sym, arith}
 use Rattle.mxf.proofs.JudgingLaws.{line-missing, line-none, line-past, wrapping-missing, wrapping-wrong, coding-missing, coding-wrong, luma, colour}
 use Rattle.mxf.proofs.judging.front_fault.Goals as goal
 use Rattle.mxf.proofs.judging.front_fault.Goals.{
@@ -17,7 +17,7 @@ returns-then-line-eq0 g c = λ e o.
     let k = g.S.Samples.writer.coding in
     let t = c.two-line.ensures.0 in
     elim c.then-line-eq0.branch [
-      then-line-eq0-via-then-line-eq0 w ↦ line-none k _ _ _ _ e o c.if-s-lt2.false (let m = w.if-line-eq0.true in omega arith)
+      | then-line-eq0-via-then-line-eq0 w ↦ line-none k _ _ _ _ e o c.if-s-lt2.false (let m = w.if-line-eq0.true in omega arith)
       | then-line-eq0-via-else-line-eq0+then-last-line w ↦
           line-past k _ _ _ _ e o c.if-s-lt2.false (let m = w.if-last-line.true in omega arith)
     ]
@@ -62,7 +62,7 @@ returns g c = λ e o.
     let l = c.if-last-line.false in
     let m = c.if-line-eq0.false in
     elim c.else-s-LUMA.branch [
-      else-s-LUMA-via-then-s-LUMA+else-s-COLOUR w ↦
+      | else-s-LUMA-via-then-s-LUMA+else-s-COLOUR w ↦
           colour k _ _ _ _ e o c.if-s-lt2.false (λ z. omega arith) (omega arith) c.if-s-lt3.false _ c.wrapping.ensures c.if-s-wrapping.false
           c.if-s-lt4.false (w.if-s-COLOUR.false ∙ w.COLOUR.ensures ∙ g.met.S.Samples.named.1)
       | else-s-LUMA-via-else-s-LUMA w ↦

@@ -1,5 +1,5 @@
 -- Key, length and N, each missing, wrong or right. Assumes nothing.
-use Rattle.std.proofs.Common.{◌≡◌, ◌∙◌, arith}
+use Rattle.std.proofs.Common.{arith}
 use Rattle.std.proofs.lemmas.Result.{err_from_is_err_and}
 use Rattle.mxf.proofs.JudgingLaws.{key-wrong, form-missing, form-wrong, length-missing, length-wrong, n-missing, head-right}
 use Rattle.mxf.proofs.judging.head_fault.Goals as goal

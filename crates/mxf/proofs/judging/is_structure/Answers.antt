@@ -24,7 +24,7 @@ returns-clause-passes g c = λ q system w e.
     let there : 14 + four_in s 6 ≤ length s = let x = c.if-s-count.false in omega arith in
     let coded : (get_or s 3 0 ≡ luma k) ⊎ (get_or s 3 0 ≡ colour k) =
     elim c.else-s-LUMA.branch [
-      else-s-LUMA-via-then-s-LUMA+else-s-COLOUR v ↦ inr (v.if-s-COLOUR.false ∙ v.COLOUR.ensures ∙ named.1)
+      | else-s-LUMA-via-then-s-LUMA+else-s-COLOUR v ↦ inr (v.if-s-COLOUR.false ∙ v.COLOUR.ensures ∙ named.1)
       | else-s-LUMA-via-else-s-LUMA v ↦ inl (v.if-s-LUMA.false ∙ c.LUMA.ensures ∙ named.0)
     ] in
     let whole : Whole k s = record { there = there; room = room; dc = shown } in

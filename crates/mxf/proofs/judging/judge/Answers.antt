@@ -1,5 +1,4 @@
 -- A fault in the head; the structures. Assumes nothing.
-use Rattle.std.proofs.Common.{◌∙◌}
 use Rattle.std.proofs.lemmas.Result.{err_from_is_err_and}
 use Rattle.mxf.proofs.JudgingLaws.{head-wrong, from-structures}
 use Rattle.mxf.proofs.judging.judge.Goals as goal

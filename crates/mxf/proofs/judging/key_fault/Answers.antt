@@ -11,9 +11,9 @@ returns-then-i-e c = λ o.
     let i = c.loop-i.i in
     c.loop-i.invariant.1 o
     ∙ elim c.then-i-e.branch [
-        then-i-e-via-then-i-e w ↦ key-missing i _ o (omega arith) w.if-i-e.true
-        | then-i-e-via-else-i-e+then-e-i w ↦ key-differs i _ o (omega arith) (omega arith) w.if-e-i.true
-      ]
+      | then-i-e-via-then-i-e w ↦ key-missing i _ o (omega arith) w.if-i-e.true
+      | then-i-e-via-else-i-e+then-e-i w ↦ key-differs i _ o (omega arith) (omega arith) w.if-e-i.true
+    ]
 
 pub loop-i-preserved : goal.loop-i-preserved
 unfolding key

@@ -1,5 +1,5 @@
 -- A structure more, without a fault. Assumes nothing.
-use Rattle.std.proofs.Common.{ℕ, ◌+◌, refl, sym, ap, ◌∙◌, drop, arith}
+use Rattle.std.proofs.Common.{ℕ, ◌+◌, sym, ap, ◌∙◌, drop, arith}
 use Rattle.mxf.specs.Judging.{two_in}
 use Rattle.mxf.proofs.JudgingLaws.{array-least, beside-few, at_first, all_there, whole, samples-there, at_next}
 use Rattle.mxf.proofs.Tens.{packet-long}

@@ -1,5 +1,5 @@
 -- The words of the packets, one after the other. Assumes nothing.
-use Rattle.std.proofs.Common.{ℕ, ◌+◌, ◌-◌, length, take, drop, refl, ap, ◌∙◌, length-drop, arith}
+use Rattle.std.proofs.Common.{ℕ, ◌+◌, length, refl, ap, ◌∙◌, length-drop, arith}
 use Rattle.rules.proofs.Basics.{rest_part}
 use Rattle.mxf.specs.Judging.{array_for}
 use Rattle.mxf.proofs.ReadingLaws.{turn, wording-all, words-room, words-more}

@@ -1,5 +1,5 @@
 -- The three counts with the system, the locations and the words, each part lent and come back. Assumes nothing.
-use Rattle.std.proofs.Common.{refl, rules, arith}
+use Rattle.std.proofs.Common.{rules, arith}
 use Rattle.std.proofs.lemmas.List.{length-set}
 use Rattle.rules.specs.Sheet.{limit}
 use Rattle.mxf.proofs.ReadingLaws.{sections-room, before-long, words-lent, sections-written}

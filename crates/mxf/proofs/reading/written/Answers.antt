@@ -1,5 +1,5 @@
 -- 5, 17, and then the sheet. Assumes nothing.
-use Rattle.std.proofs.Common.{◌+◌, ◌*◌, take, refl, arith}
+use Rattle.std.proofs.Common.{take, refl, arith}
 use Rattle.std.specs.Prelude.{Ok}
 use mathlib.Core.Logic.{inl, inr}
 use Rattle.std.proofs.lemmas.List.{length-take-le}
@@ -39,7 +39,7 @@ returns-then-j-gt65535 g c =
     let k = g.S.Samples.writer.coding in
     no_room k a.system a.fi a.e.now a.sheet.now (told_read (Ok a.j)) c.requires.1 refl c.if-j-gt-LIMIT.false
     (elim c.then-j-gt65535.branch [
-      then-j-gt65535-via-then-j-gt65535 w ↦ inl w.if-j-gt65535.true
+      | then-j-gt65535-via-then-j-gt65535 w ↦ inl w.if-j-gt65535.true
       | then-j-gt65535-via-else-j-gt65535+then-sheet-j w ↦ inr w.if-sheet-j.true
     ])
     _ refl

@@ -25,12 +25,13 @@ loop-k-preserved g c =
     let h = measure-inside so (omega arith) s.system s.packets s.of in
     let dc = c.low_byte-dc in
     elim c.if-serves.branch [
-      then-serves+else-ls-k-eq0 w ↦
-          (omega arith,
-          measure-taken so (omega arith) dc.ensures c.serves.ensures w.if-serves.true w.if-ls-k-eq0.false w.packets-is
-          (w.bytes-is
-          ∙ ap (λ m. c.loop-k.bytes + (14 + m))
-          (w.array_bytes.ensures ∙ ap (λ n. array_for g.S.Samples.writer.coding (dc.result + n)) (w.OTHERS.ensures ∙ g.met.S.Samples.named.2))))
+      | then-serves+else-ls-k-eq0 w ↦ (
+        omega arith,
+        measure-taken so (omega arith) dc.ensures c.serves.ensures w.if-serves.true w.if-ls-k-eq0.false w.packets-is
+            (w.bytes-is
+            ∙ ap (λ m. c.loop-k.bytes + (14 + m))
+            (w.array_bytes.ensures ∙ ap (λ n. array_for g.S.Samples.writer.coding (dc.result + n)) (w.OTHERS.ensures ∙ g.met.S.Samples.named.2))),
+      )
       | else-serves w ↦
           (omega arith, measure-left so (omega arith) dc.ensures c.serves.ensures w.if-serves.false w.packets-is w.bytes-is)
     ]

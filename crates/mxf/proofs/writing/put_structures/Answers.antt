@@ -1,6 +1,6 @@
 -- The structures of the sections' packets, laid one behind the other. Assumes nothing.
-use Rattle.std.proofs.Common.{◌+◌, ◌≡◌, ◌≤◌, length, refl, ap, sym, ◌∙◌, arith}
-use Rattle.mxf.specs.Judging.{others, array_for}
+use Rattle.std.proofs.Common.{◌+◌, length, refl, ap, ◌∙◌, arith}
+use Rattle.mxf.specs.Judging.{array_for}
 use Rattle.mxf.proofs.Writers.{
   others-few,
   lent-fits,
@@ -64,20 +64,22 @@ loop-k-preserved g c =
     let dc = c.low_byte-dc in
     let code = g.S.Samples.writer.coding in
     elim c.if-serves.branch [
-      then-serves w ↦
-          (omega arith,
-          structures-kept so w.put_structure.new.out w.out-is w.o-is w.put_structure.auto.out ∙ c.loop-k.invariant.1,
-          structures-taken so (omega arith) dc.ensures c.serves.ensures w.if-serves.true refl
-          (λ y left m.
-          structure-next g.S.Samples.writer m dc.ensures refl (ap (λ i. c.loop-k.at + 3 + (dc.result + i)) (w.OTHERS.ensures ∙ g.met.S.Samples.named.2)) c.args.system
-          c.wrapping-wrapping.ensures w.put_structure.ensures)
-          w.out-is w.o-is
-          (ap (λ i. c.loop-k.o + (14 + i)) (w.array_bytes.ensures ∙ ap (λ i. array_for code (dc.result + i)) (w.OTHERS.ensures ∙ g.met.S.Samples.named.2)))
-          w.put_structure.auto.out)
-      | else-serves w ↦
-          (omega arith,
-          ap length w.out-is ∙ c.loop-k.invariant.1,
-          structures-left so (omega arith) dc.ensures c.serves.ensures w.if-serves.false refl w.out-is w.o-is)
+      | then-serves w ↦ (
+        omega arith,
+        structures-kept so w.put_structure.new.out w.out-is w.o-is w.put_structure.auto.out ∙ c.loop-k.invariant.1,
+        structures-taken so (omega arith) dc.ensures c.serves.ensures w.if-serves.true refl
+            (λ y left m.
+            structure-next g.S.Samples.writer m dc.ensures refl (ap (λ i. c.loop-k.at + 3 + (dc.result + i)) (w.OTHERS.ensures ∙ g.met.S.Samples.named.2)) c.args.system
+            c.wrapping-wrapping.ensures w.put_structure.ensures)
+            w.out-is w.o-is
+            (ap (λ i. c.loop-k.o + (14 + i)) (w.array_bytes.ensures ∙ ap (λ i. array_for code (dc.result + i)) (w.OTHERS.ensures ∙ g.met.S.Samples.named.2)))
+            w.put_structure.auto.out,
+      )
+      | else-serves w ↦ (
+        omega arith,
+        ap length w.out-is ∙ c.loop-k.invariant.1,
+        structures-left so (omega arith) dc.ensures c.serves.ensures w.if-serves.false refl w.out-is w.o-is,
+      )
     ]
 
 pub returns : goal.returns

@@ -1,5 +1,5 @@
 -- The samples, one after the other. Assumes nothing.
-use Rattle.std.proofs.Common.{map, length, sym, ◌∙◌, arith}
+use Rattle.std.proofs.Common.{map, sym, ◌∙◌}
 use Rattle.std.proofs.lemmas.List.{length-map}
 use Rattle.rules.specs.Laying.{low}
 use Rattle.sections.proofs.Laws.{low_turn, low_end}

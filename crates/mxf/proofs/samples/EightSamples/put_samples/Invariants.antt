@@ -1,5 +1,5 @@
 -- What is stored, and behind it the samples that are left, are all of them. Assumes nothing.
-use Rattle.std.proofs.Common.{◌≡◌, length, map, drop}
+use Rattle.std.proofs.Common.{◌≡◌, map, drop}
 use Rattle.std.proofs.lemmas.List.Edits.{sets}
 use Rattle.rules.specs.Laying.{low}
 use Rattle.mxf.proofs.samples.EightSamples.put_samples.Given as goal

@@ -1,5 +1,5 @@
 -- The words of as many bytes, one each. Assumes nothing.
-use Rattle.std.proofs.Common.{◌+◌, ap, sym, ◌∙◌, length, arith}
+use Rattle.std.proofs.Common.{◌∙◌, arith}
 use Rattle.std.proofs.lemmas.List.{length-take-le}
 use Rattle.sheet.proofs.WriteLaws.{words-after}
 use Rattle.mxf.proofs.samples.EightSamples.write_words.Goals as goal
