@@ -12,7 +12,8 @@ use lib.ListN.{length, get_or, drop, length-drop}
 use lib.Seq.{get_or-drop, drop-drop}
 use borrow.Author.Tests.{eqb-true, eq-eqb, ne_eqb}
 use Rattle.rules.specs.Base.{All, none, one}
-use Rattle.rules.specs.Systems.{System, system}
+use Rattle.std.proofs.Common.{Option, Some, None}
+use Rattle.rules.specs.Systems.{System, known, system}
 use Rattle.rules.specs.Packet.{Packet, words, Sound}
 use Rattle.rules.specs.Sheet.{all_words}
 use Rattle.rules.specs.Blocks.{area_size}
@@ -23,9 +24,9 @@ use Rattle.rules.specs.Demands.{SheetOf, Tests, Asked}
 use Rattle.rules.specs.declared.Tested.{Tested}
 use Rattle.rules.proofs.Basics.{never}
 use Rattle.rules.proofs.Words.{low_word, coded-back, rest-taken, words_long}
-use Rattle.frame.specs.Systems.{figures_of}
+use Rattle.frame.specs.Systems.{figures_found}
 use Rattle.frame.specs.declared.Figures.{Figures}
-use Rattle.frame.proofs.Laws.{area-is}
+use Rattle.frame.proofs.Laws.{area-is, found_is, found_none}
 use Rattle.profile.specs.Profile.{eight_ids, eight_bit, profiled}
 use Rattle.profile.specs.Search.{Seeks, Answers}
 
@@ -76,7 +77,7 @@ module _ (ws : List ℕ) (at k : ℕ) (so : SoFar ws at k) where
         ap₂ eight_ids a b
 
     -- a packet outside the profile
-    pub search-stops : eight_ids did sdid ≡ false → Seeks ws (record { found = true; place = k })
+    pub search-stops : eight_ids did sdid ≡ false → Seeks ws (Some k)
     search-stops f =
         record {
           first = λ y ps g e o.
@@ -109,7 +110,7 @@ module _ (ws : List ℕ) (at k : ℕ) (so : SoFar ws at k) where
         }
 
   -- no packet is left
-  pub search-ends : length ws ≤ at + 5 → Seeks ws (record { found = false; place = 0 })
+  pub search-ends : length ws ≤ at + 5 → Seeks ws None
   search-ends h = record { first = λ y ps g e o. let l = so y ps g e in l.same o ∙ go l.left l.words o }
     where
       go : (left : List Packet) → drop at ws ≡ all_words left → (o : Outcome) → profiled k left o ≡ o
@@ -122,6 +123,14 @@ module _ (ws : List ℕ) (at k : ℕ) (so : SoFar ws at k) where
 
 -- ---- whether a list is asked for
 
+pub packing-1 : (k : ℕ) → k ≡ 1 → is_packing k ≡ true
+unfolding is_packing
+packing-1 k e = rw (eq-eqb k 1 e)
+
+pub packing-2 : (k : ℕ) → (k ≡ 1 → ⊥) → k ≡ 2 → is_packing k ≡ true
+unfolding is_packing
+packing-2 k n e = rw (ne_eqb k 1 n, eq-eqb k 2 e)
+
 module _ (k : ℕ) (s : List ℕ) (bytes : ℕ) where
   -- 1
   pub not-packing : (k ≡ 1 → ⊥) → (k ≡ 2 → ⊥) → Answers k s bytes false
@@ -132,21 +141,32 @@ module _ (k : ℕ) (s : List ℕ) (bytes : ℕ) where
 
   module _ (t : Tested) (w : Tests s t) where
     -- 2, 3, 5 to 11, 20
-    pub not-passed : (t.number ≡ 0 → ⊥) → Answers k s bytes (eqb t.number 0)
+    pub not-passed : (t.number ≡ 0 → ⊥) → Answers k s bytes false
     not-passed n =
-        rw (ne_eqb t.number 0 n)
         record {
           yes = λ e. never (cc);
           no = λ e area l sys ps q. n (ap (λ (x : Tested). x.number) (w.passes sys ps q.sheet));
         }
 
+    -- a sheet that passes has a system that is known
+    pub not-known : None ≡ figures_found t.system → Answers k s bytes false
+    not-known f =
+        record {
+          yes = λ e. never (cc);
+          no = λ e area l sys ps q.
+              let y : t.system ≡ sys = ap (λ (x : Tested). x.system) (w.passes sys ps q.sheet) in
+              let u : known sys ≡ false = ap known (sym y) ∙ found_none t.system f in
+              let v = q.sheet.known in
+              never (cc);
+        }
+
     -- 4
-    pub by-area : is_packing k ≡ true → t.number ≡ 0 → (g : Figures) → g ≡ figures_of t.system → Answers k s bytes (eqb bytes g.area)
+    pub by-area : is_packing k ≡ true → t.number ≡ 0 → (g : Figures) → Some g ≡ figures_found t.system → Answers k s bytes (eqb bytes g.area)
     by-area pk z g x = record { yes = yes; no = no }
       where
         its-area : (sys : ℕ) (ps : List Packet) → SheetOf sys ps s → g.area ≡ area_size (system sys)
         its-area sys ps q =
-            area-is t.system g x ∙ ap (λ (m : ℕ). area_size (system m)) (ap (λ (v : Tested). v.system) (w.passes sys ps q))
+            area-is t.system g (found_is t.system g x) ∙ ap (λ (m : ℕ). area_size (system m)) (ap (λ (v : Tested). v.system) (w.passes sys ps q))
 
         yes : eqb bytes g.area ≡ true → (area : List ℕ) → length area ≡ bytes → (sys : ℕ) × (ps : List Packet) × Asked k sys ps s area
         yes e area l =

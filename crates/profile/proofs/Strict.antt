@@ -13,6 +13,7 @@ use native.Mathlib.Omega.{arith}
 use lib.Dec.{eqb, leb}
 use lib.ListN.{length}
 use borrow.Author.Tests.{eqb-true, eq-eqb}
+use Rattle.std.proofs.Common.{Option, Some, None}
 use Rattle.rules.specs.Base.{All, none, one}
 use Rattle.rules.specs.Systems.{System, known, system}
 use Rattle.rules.specs.Packet.{Packet}
@@ -44,8 +45,7 @@ use Rattle.rules.proofs.Sheets.{system-back, words_back, shaped-back, list_read,
 use Rattle.rules.proofs.Laying.{lays}
 use Rattle.profile.specs.Profile.{eight_bit, Eight, profiled, strict_laying, lay_strict, area_strict}
 use Rattle.profile.specs.Demands.{AskedStrict, FirstOutside, LaysStrict}
-use Rattle.profile.specs.Search.{Seeks, Answers}
-use Rattle.profile.specs.declared.Search.{Search}
+use Rattle.profile.specs.Search.{stopped, Seeks, Answers}
 
 -- ---- the list
 
@@ -308,19 +308,19 @@ module _ (k : ℕ) (s area : List ℕ) where
   -- ---- the ways through the code
 
   -- what the search says of a list that is asked for
-  found_in : (ws : List ℕ) → ws ≡ words_in s → (f : Search) → Seeks ws f → (sys : ℕ) (ps : List Packet) → Asked k sys ps s area
-      → last_two ps ≡ cond f.found (refused 29 f.place) (last ps)
+  found_in : (ws : List ℕ) → ws ≡ words_in s → (f : Option ℕ) → Seeks ws f → (sys : ℕ) (ps : List Packet) → Asked k sys ps s area
+      → last_two ps ≡ stopped f (last ps)
   found_in ws c f w sys ps a =
       w.first (system sys) ps a.sheet.sound (c ∙ ap words_in a.sheet.whole ∙ words_back sys ps) (last ps)
 
-  module _ (ws : List ℕ) (c : ws ≡ words_in s) (f : Search) (w : Seeks ws f) where
+  module _ (ws : List ℕ) (c : ws ≡ words_in s) (f : Option ℕ) (w : Seeks ws f) where
     -- 29
-    pub refuses-outside : f.found ≡ true → Answers k s (length area) true
-        → LaysStrict k s area (record { number = 29; place = f.place; word = 0; packs = 0; bytes = 0 }) area
+    pub refuses-outside : (place : ℕ) → f ≡ Some place → Answers k s (length area) true
+        → LaysStrict k s area (record { number = 29; place = place; word = 0; packs = 0; bytes = 0 }) area
     unfolding lay_strict area_strict word_at
-    refuses-outside b t =
+    refuses-outside place b t =
         let a = t.yes refl area refl in
-        let e : strict_laying k s area ≡ refused 29 f.place =
+        let e : strict_laying k s area ≡ refused 29 place =
         strict-asked a.0 a.1 a.2 ∙ found_in ws c f w a.0 a.1 a.2 ∙ rw b in
         lays-strict _ _ (sym (ap (laid_in k y (words_in s)) e)) (sym (ap (area_of k y area) e))
 
@@ -330,7 +330,7 @@ module _ (k : ℕ) (s area : List ℕ) where
     answers-as e r after v =
         lays-strict r after (v.answer ∙ sym (ap (laid_in k y (words_in s)) e)) (v.buffer ∙ sym (ap (area_of k y area) e))
 
-    pub lays-within : f.found ≡ false → (r : Laid) (after : List ℕ) → Lays k s area r after → LaysStrict k s area r after
+    pub lays-within : f ≡ None → (r : Laid) (after : List ℕ) → Lays k s area r after → LaysStrict k s area r after
     lays-within b r after v = answers-as (laid-alike (λ ps a. found_in ws c f w (system_in s) ps a ∙ rw b)) r after v
 
     pub lays-early : Answers k s (length area) false → (r : Laid) (after : List ℕ) → Lays k s area r after → LaysStrict k s area r after

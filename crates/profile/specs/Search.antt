@@ -1,6 +1,6 @@
 -- What the parts of the code promise each other.
 -- Assumes nothing.
-use Rattle.std.specs.Prelude.{ℕ, ◌≡◌, Bool, true, false, cond, List, length}
+use Rattle.std.specs.Prelude.{ℕ, ◌≡◌, Bool, true, false, List, length, Option, Some, None}
 use Rattle.rules.specs.Base.{All}
 use Rattle.rules.specs.Systems.{System}
 use Rattle.rules.specs.Packet.{Packet, Sound}
@@ -8,12 +8,16 @@ use Rattle.rules.specs.Sheet.{all_words}
 use Rattle.rules.specs.Numbers.{Outcome, refused}
 use Rattle.rules.specs.Demands.{Asked}
 use Rattle.profile.specs.Profile.{profiled}
-use Rattle.profile.specs.declared.Search.{Search}
+
+-- 29 with the packet that is named; where none is, what follows
+abbrev pub stopped : Option ℕ → Outcome → Outcome
+stopped (Some place) o = refused 29 place
+stopped None o = o
 
 -- of the words of a sound list, whatever follows 29: the packet that it names, or none
-pub record Seeks (ws : List ℕ) (r : Search) : Type 0 where
+pub record Seeks (ws : List ℕ) (r : Option ℕ) : Type 0 where
   pub first : (y : System) (ps : List Packet) → All (Sound y) ps → ws ≡ all_words ps
-      → (o : Outcome) → profiled 0 ps o ≡ cond r.found (refused 29 r.place) o
+      → (o : Outcome) → profiled 0 ps o ≡ stopped r o
 
 -- whether some sound list is asked for, with an area of so many bytes
 pub record Answers (k : ℕ) (s : List ℕ) (bytes : ℕ) (r : Bool) : Type 0 where
