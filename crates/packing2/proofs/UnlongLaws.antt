@@ -1,7 +1,7 @@
 -- Long packs as the code opens them.
 --
--- In order: lists; bytes through a local array; packs by number; a pack opened; whole rows; the answer; the answer read; the loop over
--- packs.
+-- In order: lists; bytes through a local array; packs by number; a pack opened; whole rows; the answer; the answer read; the loops over
+-- rows and packs.
 -- Assumes nothing.
 use Prim.Native.Nat.{ℕ, zero, suc, ◌+◌, ◌-◌, ◌*◌, ◌%◌, ◌≤◌, ◌<◌}
 use mathlib.Core.Path.{◌≡◌, refl, sym, ap, ◌∙◌, subst}
@@ -19,10 +19,10 @@ use Rattle.rules.specs.Base.{all_is, sum, one}
 use Rattle.rules.specs.Packing2.{Opened, opened, shut, onto, open_pack, open_long, string_room}
 use Rattle.rules.proofs.Basics.{never, both, drop-take, sets-front, sets_behind, copy-turn}
 use Rattle.rules.proofs.Long.{Roomy}
-use Rattle.packing2.specs.Long.{rows_of, rows_found, row_sizes, rows_sizes}
+use Rattle.packing2.specs.Long.{rows_found, row_sizes, rows_sizes}
 use Rattle.packing2.specs.declared.unlong.Opened.{Opened as Counts}
-use Rattle.packing2.specs.Unlong.{opened_from, opened_of, Pulled, room_at, after, sizes_from, opened_on, go_on, pulled_down}
-use Rattle.packing2.proofs.LongLaws.{found_none, rows-none, sizes-rows, sum_rows, room-rows, roomy-row}
+use Rattle.packing2.specs.Unlong.{opened_from, opened_of, Pulled, room_at, sizes_from, opened_on, go_on, pulled_down}
+use Rattle.packing2.proofs.LongLaws.{Found, found_none, rows-none, sizes-rows, sum_rows, room-rows, roomy-row}
 
 -- ---- lists
 
@@ -57,10 +57,9 @@ room-cases k = go (ltb k 8) (ltb k 16)
     go false true = inr refl
     go false false = inl refl
 
--- the packs of so many rows, by number
-sizes-by-number : (rows : ℕ) → sizes_from 0 (length (rows_sizes rows)) ≡ rows_sizes rows
-sizes-by-number zero = refl
-sizes-by-number (suc rows) = ap (λ (ns : List ℕ). row_sizes ++ ns) (sizes-by-number rows)
+-- the packs of a row, by number
+row-by-number : sizes_from 0 24 ≡ row_sizes
+row-by-number = refl
 
 -- ---- a pack opened
 
@@ -279,89 +278,88 @@ answer-some (opened t d) p us w =
     let z : p ≡ record { bytes = length t; room = d } = cc in
     rw z (ap (λ (s : List ℕ). opened s d) (sym v.0), v.1)
 
--- ---- the loop over packs
+-- ---- the loops over rows and packs
 
--- what is known at its head: the packs still to come, from the user bytes still there, put onto the string so far, are the whole
-pub record Opening (o : Opened) (total : ℕ) (us : List ℕ) (at len k : ℕ) : Type 0 where
-  pub left : ℕ
-  pub row : k < 24
-  pub whole : at + sum (sizes_from k left) ≡ total
+-- what is known at their heads: the packs still to come, of which ns are the sizes, from the user bytes still there, put onto the string so
+-- far, are the whole
+pub record Opening (o : Opened) (total : ℕ) (us : List ℕ) (at len : ℕ) (ns : List ℕ) : Type 0 where
+  pub whole : at + sum ns ≡ total
   pub low : len ≤ at
-  pub most : len + string_room (sizes_from k left) ≤ 8928
-  pub rest : opened_on (sizes_from k left) total us at len ≡ o
+  pub most : len + string_room ns ≤ 8928
+  pub rest : opened_on ns total us at len ≡ o
 
--- the loop begins behind r rows
-pub opening-start : (rows r : ℕ) (us : List ℕ) → r ≤ rows → rows ≤ 6
-    → Opening (opened_on (rows_sizes (rows - r)) (1560 * rows) us (1560 * r) (1488 * r)) (1560 * rows) us (1560 * r) (1488 * r) 0
-opening-start rows r us h m =
-    let n = sizes-by-number (rows - r) in
-    let s = ap sum n ∙ sum_rows (rows - r) in
-    let t = ap string_room n ∙ room-rows (rows - r) in
+-- they begin behind r rows that are pulled down
+pub opening-start : (sys rows r : ℕ) (us₀ us : List ℕ) → Found sys rows → r ≤ rows
+    → opened_on (rows_sizes (rows - r)) (1560 * rows) us (1560 * r) (1488 * r) ≡ opened_on (rows_sizes rows) (1560 * rows) us₀ 0 0
+    → Opening (opened_from sys us₀) (1560 * rows) us (1560 * r) (1488 * r) (rows_sizes (rows - r))
+opening-start sys rows r us₀ us found h q =
+    let m = found.most in
+    let s = sum_rows (rows - r) in
+    let t = room-rows (rows - r) in
+    let f : open_long (rows_sizes rows) (take (1560 * rows) us₀) ≡ opened_from sys us₀ = rw (sizes-rows sys, ← found.is, sum_rows rows) in
     record {
-      left = length (rows_sizes (rows - r));
-      row = omega arith;
       whole = omega arith;
       low = omega arith;
       most = omega arith;
-      rest = ap (λ (ns : List ℕ). opened_on ns (1560 * rows) us (1560 * r) (1488 * r)) n;
+      rest = q ∙ onto-none (open_long (rows_sizes rows) (take (1560 * rows) us₀)) ∙ f;
     }
 
--- what all rows open to is what the frame opens to
-pub frame-answer : (sys rows : ℕ) (us₀ : List ℕ) {o : Opened} {r : Option Counts} {us : List ℕ} → rows ≡ rows_of sys
-    → o ≡ opened_on (rows_sizes rows) (1560 * rows) us₀ 0 0 → Answer o r us → Answer (opened_from sys us₀) r us
-frame-answer sys rows us₀ {r = r} {us = us} e q =
-    let f : open_long (rows_sizes rows) (take (1560 * rows) us₀) ≡ opened_from sys us₀ = rw (sizes-rows sys, ← e, sum_rows rows) in
-    subst (λ (o : Opened). Answer o r us) (q ∙ onto-none (open_long (rows_sizes rows) (take (1560 * rows) us₀)) ∙ f)
+-- the packs of a row and of those behind it
+abbrev pub row_left : ℕ → ℕ → List ℕ
+row_left k more = sizes_from k (24 - k) ++ rows_sizes more
 
--- no pack is left, and none had END 0
-pub opening-end : {o : Opened} {total : ℕ} {us : List ℕ} {at len k : ℕ} → Opening o total us at len k → total ≤ at → Answer o None us
-opening-end {o} {total} {us} {at} {len} {k} w h = shut-answer o us (go w.left w.whole w.rest)
-  where
-    go : (left : ℕ) → at + sum (sizes_from k left) ≡ total → opened_on (sizes_from k left) total us at len ≡ o → o ≡ shut
-    go zero e r = sym r
-    go (suc left) e r = absurd (omega arith)
+module _ {o : Opened} {total : ℕ} {us : List ℕ} {at len : ℕ} where
+  -- a row more
+  pub opening-row : (rows r : ℕ) → r < rows → Opening o total us at len (rows_sizes (rows - r))
+      → Opening o total us at len (row_left 0 (rows - (r + 1)))
+  opening-row rows r h w = let n : rows - r ≡ suc (rows - (r + 1)) = omega arith in rw n at w
 
--- a turn: the pack at `at` has `room` string bytes
-module _ {o : Opened} {total : ℕ} {us : List ℕ} {at len k : ℕ} (w : Opening o total us at len k) (h : at < total) (long : total ≤ length us)
-    {room : ℕ} (is : room ≡ room_at k) where
+  -- none of it is left
+  pub opening-next : (k more : ℕ) → 24 ≤ k → Opening o total us at len (row_left k more) → Opening o total us at len (rows_sizes more)
+  opening-next k more h w = let n : 24 - k ≡ 0 = omega arith in rw n at w
+
+  -- no row is left, and no pack had END 0
+  pub opening-end : (left : ℕ) → left ≤ 0 → Opening o total us at len (rows_sizes left) → Answer o None us
+  opening-end zero h w = shut-answer o us (sym w.rest)
+  opening-end (suc left) h w = absurd (omega arith)
+
+-- a turn: the pack at `at` has number k and `room` string bytes
+module _ {o : Opened} {total : ℕ} {us : List ℕ} {at len k : ℕ} (more : ℕ) (w : Opening o total us at len (row_left k more)) (h : k < 24)
+    (long : total ≤ length us) {room : ℕ} (is : room ≡ room_at k) where
+  -- the packs behind it
+  abbrev behind : List ℕ
+  behind = row_left (k + 1) more
+
+  here : Opening o total us at len ((3 + room) ∷ behind)
+  here =
+      let n : 24 - k ≡ suc (24 - (k + 1)) = omega arith in
+      let m : room_at k + 3 ≡ 3 + room = omega arith in
+      rw m at (rw n at w)
+
+  -- the pack lies within the user bytes
+  pub turn-within : at + (3 + room) ≤ total
+  turn-within = let e = here.whole in omega arith
+
   -- the buffer with its string bytes pulled down
   abbrev next-us : List ℕ
   next-us = sets us len (take room (drop (at + 3) us))
 
-  -- with so many packs behind it: they fill the rest, their room, and what all open to
-  abbrev Turned : ℕ → Type 0
-  Turned left =
-      (at + (3 + room) + sum (sizes_from (after k) left) ≡ total)
-      × (len + room + string_room (sizes_from (after k) left) ≤ 8928)
-      × (o
+  -- what all opens to, by this pack
+  turned : o
       ≡ open_pack
       (eqb (get_or us at 0) 0xE3)
       (eqb (get_or us (at + 1) 0 % 2) 1)
       (all_is 0xFF (drop (at + (3 + room)) (take total next-us)))
       (take (len + room) next-us)
       room
-      (open_long (sizes_from (after k) left) (drop (at + (3 + room)) (take total next-us))))
-
-  turn : (left : ℕ) × Turned left
-  turn = go w.left w.whole w.most w.rest
-    where
-      go : (left : ℕ) → at + sum (sizes_from k left) ≡ total → len + string_room (sizes_from k left) ≤ 8928
-          → opened_on (sizes_from k left) total us at len ≡ o → (left : ℕ) × Turned left
-      go zero e m r = absurd (omega arith)
-      go (suc left) e m r =
-          let ns : List ℕ = sizes_from (after k) left in
-          let f : at + (3 + room + sum ns) ≡ total = omega arith in
-          let n : room_at k + 3 ≡ 3 + room = omega arith in
-          let d : 3 + room - 3 ≡ room = omega arith in
-          (left, (omega arith, omega arith, sym r ∙ rw (n, pack-opened (3 + room) ns us total at len (omega arith) f long w.low, d)))
-
-  -- the pack lies within the user bytes
-  pub turn-within : at + (3 + room) ≤ total
-  turn-within = omega (arith, turn.1.0)
+      (open_long behind (drop (at + (3 + room)) (take total next-us)))
+  turned =
+      let d : 3 + room - 3 ≡ room = omega arith in
+      sym here.rest ∙ rw (pack-opened (3 + room) behind us total at len (omega arith) here.whole long here.low, d)
 
   -- it does not begin with E3h
   pub turn_gap : (get_or us at 0 ≡ 0xE3 → ⊥) → Answer o None us
-  turn_gap g = shut-answer o us (turn.1.2 ∙ rw (ne_eqb (get_or us at 0) 0xE3 g))
+  turn_gap g = shut-answer o us (turned ∙ rw (ne_eqb (get_or us at 0) 0xE3 g))
 
   -- it does, and its string bytes are pulled down
   module _ (mark : get_or us at 0 ≡ 0xE3) {us' : List ℕ} (p : us' ≡ sets us len (take (room_at k) (drop (at + 3) us))) where
@@ -375,8 +373,11 @@ module _ {o : Opened} {total : ℕ} {us : List ℕ} {at len k : ℕ} (w : Openin
     -- END is 0
     pub turn_last : get_or us (at + 1) 0 % 2 ≡ 0 → {r : Option Counts} → r ≡ cond fill-behind (Some (record { bytes = len + room; room = room })) None
         → Answer o r us'
-    turn_last z {r} q = last-answer o fill-behind us' (len + room) room r opens fits (omega (arith, turn.1.1)) (rw is (room-cases k)) q
+    turn_last z {r} q = last-answer o fill-behind us' (len + room) room r opens fits short (rw is (room-cases k)) q
       where
+        short : len + room ≤ 8928
+        short = let m = here.most in omega arith
+
         fits : len + room ≤ length us'
         fits =
             let e : length us' ≡ length us = ap length pulled-down ∙ length-sets us len (take room (drop (at + 3) us)) in
@@ -386,7 +387,7 @@ module _ {o : Opened} {total : ℕ} {us : List ℕ} {at len k : ℕ} (w : Openin
 
         opens : o ≡ cond fill-behind (opened (take (len + room) us') room) shut
         opens =
-            turn.1.2
+            turned
             ∙ rw (
               drop-take (at + (3 + room)) total next-us,
               eq-eqb (get_or us at 0) 0xE3 mark,
@@ -396,16 +397,15 @@ module _ {o : Opened} {total : ℕ} {us : List ℕ} {at len k : ℕ} (w : Openin
             )
 
     -- END is 1
-    pub turn_more : (get_or us (at + 1) 0 % 2 ≡ 0 → ⊥) → {j : ℕ} → (j ≡ after k) × (j < 24)
-        → Opening o total us' (at + (3 + room)) (len + room) j
-    turn_more z e =
+    pub turn_more : (get_or us (at + 1) 0 % 2 ≡ 0 → ⊥) → Opening o total us' (at + (3 + room)) (len + room) behind
+    turn_more z =
         let y : get_or us (at + 1) 0 % 2 ≡ 1 = omega arith in
         let f = w.low in
+        let e = here.whole in
+        let m = here.most in
         record {
-          left = turn.0;
-          row = e.1;
-          whole = rw e.0 turn.1.0;
+          whole = omega arith;
           low = omega arith;
-          most = rw e.0 turn.1.1;
-          rest = sym (turn.1.2 ∙ rw (eq-eqb (get_or us at 0) 0xE3 mark, eq-eqb (get_or us (at + 1) 0 % 2) 1 y, pulled-down, e.0));
+          most = omega arith;
+          rest = sym (turned ∙ rw (eq-eqb (get_or us at 0) 0xE3 mark, eq-eqb (get_or us (at + 1) 0 % 2) 1 y, pulled-down));
         }

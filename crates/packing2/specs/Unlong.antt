@@ -36,14 +36,10 @@ Pulled o us =
 abbrev pub room_at : ℕ → ℕ
 room_at k = cond (ltb k 8) 72 (cond (ltb k 16) 42 72)
 
--- the number of the pack after it
-abbrev pub after : ℕ → ℕ
-after k = cond (eqb k 23) 0 (k + 1)
-
--- the user bytes of so many packs, of which the first has number k
+-- the user bytes of so many packs of a row, of which the first has number k
 abbrev pub sizes_from : ℕ → ℕ → List ℕ
 sizes_from k zero = []
-sizes_from k (suc left) = (room_at k + 3) ∷ sizes_from (after k) left
+sizes_from k (suc left) = (room_at k + 3) ∷ sizes_from (k + 1) left
 
 -- packs of these sizes all go on: each begins with E3h and has END 1
 unfoldable pub go_on : List ℕ → List ℕ → Bool

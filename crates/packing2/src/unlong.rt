@@ -5,7 +5,7 @@ ghost use Rattle.std.specs.Prelude.{◌≡◌, Some, None, cond, ◌+◌, ◌*�
 ghost use Rattle.std.proofs.lemmas.List.Edits.{sets};
 ghost use Rattle.rules.specs.Base.{all_is};
 ghost use Rattle.packing2.specs.Long.{row_sizes, rows_sizes};
-ghost use Rattle.packing2.specs.Unlong.{opened_from, opened_of, Pulled, room_at, after, go_on, pulled_down, opened_on};
+ghost use Rattle.packing2.specs.Unlong.{opened_from, opened_of, Pulled, room_at, go_on, pulled_down, opened_on};
 
 // The string bytes of all packs, and those of the last one.
 #[derive(Clone, Copy)]
@@ -38,17 +38,6 @@ fn pull(us: &mut [u8; 9360], k: usize, from: usize, to: usize) -> usize
     }
     down::<72>(us, from, to);
     72
-}
-
-// The next pack's number in its row of 24: counted on, so that nothing is divided.
-fn next(k: usize) -> usize
-    requires { k < 24 }
-    ensures { (result ≡ after k) × (result < 24) }
-{
-    if k == 23 {
-        return 0;
-    }
-    k + 1
 }
 
 // What the pack with END 0 gives, if only fill is behind it.
@@ -136,20 +125,20 @@ pub fn open_long(system: u64, us: &mut [u8; 9360]) -> Option<Opened>
     let whole = pull_rows(us, rows);
     let mut at = 1560 * whole;
     let mut len = 1488 * whole;
-    let mut k = 0;
-    while at < total {
-        let s = &us[..];
-        if s[at] != 0xE3 {
-            return None;
+    for _ in whole..rows {
+        for k in 0..24 {
+            let s = &us[..];
+            if s[at] != 0xE3 {
+                return None;
+            }
+            let end = s[at + 1] % 2;
+            let room = pull(us, k, at + 3, len);
+            at += 3 + room;
+            len += room;
+            if end == 0 {
+                return last(us, at, total, Opened { bytes: len, room });
+            }
         }
-        let end = s[at + 1] % 2;
-        let room = pull(us, k, at + 3, len);
-        at += 3 + room;
-        len += room;
-        if end == 0 {
-            return last(us, at, total, Opened { bytes: len, room });
-        }
-        k = next(k);
     }
     None
 }

@@ -1,13 +1,12 @@
--- The packs still to come, put onto the string so far, are what was behind the whole rows. Assumes nothing.
-use Rattle.std.proofs.Common.{◌-◌}
+-- The packs still to come, put onto the string so far, are what all user bytes open to. Assumes nothing.
+use Rattle.std.proofs.Common.{◌+◌, ◌-◌}
 use Rattle.packing2.specs.Long.{rows_sizes}
-use Rattle.packing2.specs.Unlong.{opened_on}
-use Rattle.packing2.proofs.UnlongLaws.{Opening}
+use Rattle.packing2.specs.Unlong.{opened_from}
+use Rattle.packing2.proofs.UnlongLaws.{Opening, row_left}
 use Rattle.packing2.proofs.unlong.open_long.Given as goal
 
-abbrev pub invariant-loop-at : goal.invariant-loop-at
-invariant-loop-at l =
-    Opening (opened_on (rows_sizes (l.rows - l.whole)) l.total l.initial.us l.initial.at l.initial.len) l.total l.us l.at l.len l.k
+abbrev pub invariant-loop : goal.invariant-loop
+invariant-loop l = Opening (opened_from l.fn.system l.fn.us) l.total l.us l.at l.len (rows_sizes (l.rows - l.counter))
 
-abbrev pub decreases-loop-at : goal.decreases-loop-at
-decreases-loop-at l = l.total - l.at
+abbrev pub invariant-loop-k : goal.invariant-loop-k
+invariant-loop-k l = Opening (opened_from l.fn.system l.fn.us) l.total l.us l.at l.len (row_left l.k (l.rows - (l.counter + 1)))
