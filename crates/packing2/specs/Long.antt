@@ -2,7 +2,8 @@
 --
 -- In order: what the calls promise; how the code goes about it: rows of two sequences, and blocks laid from a place on.
 -- Assumes nothing.
-use Rattle.std.specs.Prelude.{ℕ, zero, suc, ◌+◌, ◌-◌, ◌*◌, ◌/◌, ◌≤◌, ◌≡◌, Bool, true, cond, ◌&&◌, Option, Some, None, List, [], ◌∷◌, ◌++◌, eqb, leb, length, take, drop}
+use Rattle.std.specs.Prelude.{ℕ, zero, suc, ◌+◌, ◌-◌, ◌*◌, ◌/◌, ◌≤◌, ◌≡◌, Bool, true, cond, ◌&&◌, Option, Some, None}
+use Rattle.std.specs.Prelude.{List, [], ◌∷◌, ◌++◌, eqb, leb, length, take, drop}
 use Rattle.rules.specs.Systems.{known, system}
 use Rattle.rules.specs.Blocks.{Run, runs, sizes, block_sizes, area_size, scatter}
 use Rattle.rules.specs.Packing2.{fill, long_packs, string_room, long_count}

@@ -414,7 +414,8 @@ module _ (k : ℕ) (s area : List ℕ) where
   told-given : (e : Refused) (n i : ℕ) → TellsSheet s (Err e) → sheet_tests s ≡ refused n i
       → given_of (Err e) ≡ laid_in k (system (system_in s)) (words_in s) (refused n i)
   told-given e n i w q =
-      let z : told e ≡ tell n i (word_at n (from_packet i (words_in s))) = let h = w ∙ ap (told_by word_at (header_of (system_in s)) (words_in s)) q in cc in
+      let h = w ∙ ap (told_by word_at (header_of (system_in s)) (words_in s)) q in
+      let z : told e ≡ tell n i (word_at n (from_packet i (words_in s))) = cc in
       ap given-told z
 
   module _ (pk : is_packing k ≡ true) where
@@ -482,6 +483,7 @@ module _ (k : ℕ) (s area : List ℕ) where
             where
               -- neither names a word
               no_word : (ps : List Packet) (b : Bool)
-                  → laid_of k (system (system_in s)) (unless 12 b (listed ps)) ≡ laid_in k (system (system_in s)) (words_in s) (unless 12 b (listed ps))
+                  → laid_of k (system (system_in s)) (unless 12 b (listed ps))
+                  ≡ laid_in k (system (system_in s)) (words_in s) (unless 12 b (listed ps))
               no_word ps true = refl
               no_word ps false = refl

@@ -142,7 +142,11 @@ module _ (sys k : ℕ) (f : Found) (us sheet after : List ℕ) (o : Outcome) (w 
   found-written numbers z =
       let v = found-list k f us o w in
       let b = all_room sys k v.0 (take f.string.end us) sheet after n v.3 short-front m-is a-is numbers f.string.packets z v.2 in
-      let made = λ (x : ℕ). Back sys k sheet (listed v.0) (record { number = 0; place = 0; packing = x; packets = f.string.packets; numbers = numbers }) after in
+      let made =
+      λ (x : ℕ).
+      Back sys k sheet (listed v.0)
+      (record { number = 0; place = 0; packing = x; packets = f.string.packets; numbers = numbers })
+      after in
       back-of refl v.1 (subst made (sym w.packing) b)
 
 -- a refusal that is found is given back
