@@ -20,12 +20,10 @@ fn channels(rt: &impl Print, n: u8, q: u8, j: u8) -> io::Result<()> {
 
 // By sequence, within it by block.
 fn sequences(rt: &impl Print, n: u8) -> io::Result<()> {
-    let mut q = 0;
-    while q < n {
+    for q in 0..n {
         channels(rt, n, q, 0)?;
         channels(rt, n, q, 1)?;
         channels(rt, n, q, 2)?;
-        q += 1;
     }
     Ok(())
 }

@@ -10,10 +10,7 @@ ghost use Rattle.frame.specs.Bytes.{fits_area, collected, bytes_after, area_with
 mod blocks;
 mod lines;
 
-pub use lines::{
-    Raster, Raster720, Raster1080, is_allowed_in_720, is_allowed_in_1080, is_in, lines_of,
-    may_stand,
-};
+pub use lines::{Raster, Raster720, Raster1080, is_in, lines_of, may_stand};
 
 // "P is at most [1,275]" (document 02, A6). Here because every room that counts packets stands on this one.
 pub const LIMIT: usize = 1275;

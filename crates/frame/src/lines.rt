@@ -71,18 +71,6 @@ pub fn may_stand(last: Line, line: Line) -> bool
     }
 }
 
-pub fn is_allowed_in_1080(line: Line) -> bool
-    ensures { (y : System) → y.last ≡ 1125 → result ≡ allowed y line.0 }
-{
-    Raster1080::is_allowed(line)
-}
-
-pub fn is_allowed_in_720(line: Line) -> bool
-    ensures { (y : System) → y.last ≡ 750 → result ≡ allowed y line.0 }
-{
-    Raster720::is_allowed(line)
-}
-
 // The same lines as bits, which a caller asks for once: to find a line among them takes no branch.
 pub fn lines_of(last: Line) -> [u64; 32]
     ensures { result ≡ lines_of last.0 }

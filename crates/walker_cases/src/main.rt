@@ -33,34 +33,27 @@ fn print_walked(rt: &impl Print, w: Walked) -> io::Result<()> {
 
 // Every answer to the first without a length, the next one, and the last that there is.
 fn print_answers(rt: &impl Print, system: u64, string: &[u8]) -> io::Result<()> {
-    let mut k: u64 = 0;
-    while k < 10000 {
+    for k in 0..10000 {
         let s = walker::kth(system, string, k);
         print_step(rt, s, k)?;
         if s.length == 0 {
             print_step(rt, walker::kth(system, string, k + 1), k + 1)?;
-            return print_step(rt, walker::kth(system, string, 18446744073709551615), 0);
+            return print_step(rt, walker::kth(system, string, u64::MAX), 0);
         }
-        k += 1;
     }
     Ok(())
 }
 
 // A step from every third place, past the end too.
 fn print_places(rt: &impl Print, system: u64, string: &[u8]) -> io::Result<()> {
-    let mut place: u64 = 0;
-    while place < 60 {
+    for place in (0..60).step_by(3) {
         print_walked(rt, walker::next(system, string, StringByte(place)))?;
-        place += 3;
     }
     print_walked(
         rt,
         walker::next(system, string, StringByte(string.len() as u64)),
     )?;
-    print_walked(
-        rt,
-        walker::next(system, string, StringByte(18446744073709551615)),
-    )
+    print_walked(rt, walker::next(system, string, StringByte(u64::MAX)))
 }
 
 fn print_case(rt: &impl Print, system: u64, string: &[u8]) -> io::Result<()> {
@@ -99,12 +92,10 @@ fn one_case(rt: &impl Print, cases: &mut File) -> io::Result<bool> {
 
 fn main(rt: HostRuntime) -> io::Result<()> {
     let mut cases = File::open(&rt, "cases")?;
-    let mut left: usize = 4096;
-    while 0 < left {
+    for _ in 0..4096 {
         if !one_case(&rt, &mut cases)? {
             return Ok(());
         }
-        left -= 1;
     }
     Ok(())
 }
