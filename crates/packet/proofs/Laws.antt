@@ -126,23 +126,8 @@ module _ (test : ℕ → Bool) (all : List ℕ → Bool) (before : List ℕ → 
 
 -- ---- a pass over words: what the word at i adds, and the end
 
-pub words-next : (ok : Bool) (i w : ℕ) (ws : List ℕ) → i < length ws → w ≡ word (get_or ws i 0 % 256)
-    → ((ok && eqb (get_or ws i 0) w) && are_words (drop (i + 1) ws)) ≡ (ok && are_words (drop i ws))
-unfolding is_word
-words-next ok i w ws h e = rw e (each_next is_word are_words words_before each_word ok i ws h)
-
 pub words-end : (ok : Bool) (i : ℕ) (ws : List ℕ) → length ws ≤ i → (ok && are_words (drop i ws)) ≡ ok
 words-end ok i ws h = each-end is_word are_words words_before each_word ok i ws h
-
--- the same where each word is tested apart
-words-at : (i : ℕ) (ws : List ℕ) → i < length ws → are_words (drop i ws) ≡ (is_word (get_or ws i 0) && are_words (drop (i + 1) ws))
-words-at i ws h = rw (add-one i, drop-cons ws i 0 h)
-
-pub looked-right : (i : ℕ) (ws : List ℕ) → i < length ws → is_word (get_or ws i 0) ≡ true → are_words (drop (i + 1) ws) ≡ are_words (drop i ws)
-looked-right i ws h e = rw (words-at i ws h, e)
-
-pub looked-wrong : (i : ℕ) (ws : List ℕ) → i < length ws → is_word (get_or ws i 0) ≡ false → are_words (drop i ws) ≡ false
-looked-wrong i ws h e = rw (words-at i ws h, e)
 
 pub sum9-next : (i : ℕ) (ws : List ℕ) → i < length ws → sum9 (drop i ws) ≡ get_or ws i 0 % 512 + sum9 (drop (i + 1) ws)
 sum9-next i ws h = rw (add-one i, drop-cons ws i 0 h)
@@ -217,20 +202,6 @@ flag-right (a ∷ []) l e f g = absurd (omega arith)
 flag-right (a ∷ b ∷ []) l e f g = absurd (omega arith)
 flag-right (a ∷ b ∷ c ∷ s) l e f g = rw (eq-eqb a 0x000 e, eq-eqb b 0x3FF f, eq-eqb c 0x3FF g)
 
--- the words before the first wrong one: the word at i is right, or wrong, or there is none
-module _ (i w : ℕ) (ws : List ℕ) (h : i < length ws) (e : w ≡ word (get_or ws i 0 % 256)) where
-  pub before-next : get_or ws i 0 ≡ w → i + 1 + words_before (drop (i + 1) ws) ≡ i + words_before (drop i ws)
-  unfolding is_word
-  before-next q = search-next is_word are_words words_before each_word i ws h (eq-eqb (get_or ws i 0) (word (get_or ws i 0 % 256)) (q ∙ e))
-
-  pub before_here : (get_or ws i 0 ≡ w → ⊥) → i ≡ i + words_before (drop i ws)
-  unfolding is_word
-  before_here q =
-      search-here is_word are_words words_before each_word i ws h (ne_eqb (get_or ws i 0) (word (get_or ws i 0 % 256)) (λ d. q (d ∙ sym e)))
-
-pub before-end : (i : ℕ) (ws : List ℕ) → length ws ≤ i → i ≡ i + words_before (drop i ws)
-before-end i ws h = search-end is_word are_words words_before each_word i ws h
-
 -- one packet alone: no words, refused or sound
 pub one_none : (s : List ℕ) → length s ≡ 0 → record { number = 7; word = 0; kind = 0 } ≡ judged s
 unfolding judged words_fault word_at flag_word
@@ -265,18 +236,3 @@ size-short s d e h =
 pub size-whole : (s : List ℕ) (d : ℕ) → d ≡ dc_in s → d + 7 ≤ length s → SizeOf s (d + 7)
 size-whole s d e h =
     record { within = h; front = ap (λ (n : ℕ). take (n + 7) s) e; behind = ap (λ (n : ℕ). drop (n + 7) s) e }
-
--- the words that are lent from `at` on, and those behind one packet more
-pub behind-next : (ws : List ℕ) (at n left place : ℕ) → 0 < left
-    → let s : List ℕ = take (length ws - at) (drop at ws) in drop n s ≡ drop (dc_in s + 7) s
-    → from_packet left (drop at ws) ≡ from_packet place ws → from_packet (left - 1) (drop (at + n) ws) ≡ from_packet place ws
-behind-next ws at n zero place h e f = absurd (omega arith)
-behind-next ws at n (suc left) place h e f =
-    let k : suc left - 1 ≡ left = omega arith in
-    let g : drop n (drop at ws) ≡ drop (dc_in (drop at ws) + 7) (drop at ws) =
-    subst (λ (s : List ℕ). drop n s ≡ drop (dc_in s + 7) s) (rest_part at ws) e in
-    rw k (ap (from_packet left) (sym (drop-drop n at ws) ∙ g) ∙ f)
-
-pub behind-all : {A : Type 0} (f : List ℕ → A) (ws : List ℕ) (at left place : ℕ) → left ≡ 0 → from_packet left (drop at ws) ≡ from_packet place ws
-    → f (take (length ws - at) (drop at ws)) ≡ f (from_packet place ws)
-behind-all f ws at left place z g = ap f (rest_part at ws ∙ ap (λ (n : ℕ). from_packet n (drop at ws)) (sym z) ∙ g)
