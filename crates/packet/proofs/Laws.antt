@@ -4,7 +4,7 @@
 -- holds; the word that a number names; the packets before the one that is named.
 -- Assumes nothing.
 use Prim.Native.Nat.{ℕ, zero, suc, ◌+◌, ◌-◌, ◌*◌, ◌/◌, ◌%◌, ◌≤◌, ◌<◌}
-use mathlib.Core.Path.{◌≡◌, refl, ap, sym, ◌∙◌, subst}
+use mathlib.Core.Path.{◌≡◌, refl, ap, sym, ◌∙◌}
 use mathlib.Core.Bool.{Bool, true, false, cond, ◌&&◌}
 use mathlib.Core.List.{List, [], ◌∷◌, ◌++◌}
 use native.Mathlib.Omega.{arith}
@@ -16,7 +16,7 @@ use lib.ListN.{length, get_or, take, drop, drop_of_length-le, take-append-drop}
 use lib.Seq.{drop-cons, drop-drop, take_all}
 use borrow.Author.Tests.{eq-eqb, ne_eqb, eqb-true}
 use Rattle.rules.specs.Packet.{parity, word, sum9, check}
-use Rattle.rules.specs.Laying.{is_word, are_words, dc_in, words_fault, words_before, flag_word, word_at, from_packet, type_of, judged}
+use Rattle.rules.specs.Laying.{is_word, are_words, dc_in, words_fault, words_before, flag_word, word_at, type_of, judged}
 use Rattle.rules.proofs.Basics.{both, rest_part}
 use Rattle.rules.proofs.Words.{words_append, fault-long}
 use Rattle.packet.specs.Run.{pass_of, check_sum, words_from, word_table, SizeOf}

@@ -19,12 +19,12 @@ use Rattle.rules.specs.Base.{sum}
 use Rattle.rules.specs.Packet.{Packet, check}
 use Rattle.rules.specs.Danc.{bytes_of, string_byte_count}
 use Rattle.rules.specs.Packing1.{packs_of}
-use Rattle.rules.specs.Numbers.{Outcome, listed, refused, also, Row, packets_in}
-use Rattle.rules.specs.Laying.{are_words, flagged, low, dc_in, words_fault, packet_of_words, no_words, word_row, packets_of_words}
+use Rattle.rules.specs.Numbers.{Outcome, listed, refused, also, packets_in}
+use Rattle.rules.specs.Laying.{are_words, flagged, low, dc_in, words_fault, packet_of_words}
 use Rattle.rules.specs.Laying.{is_word, words_before, flag_word, word_at, from_packet}
 use Rattle.rules.specs.Refusals.{Told, tell}
 use Rattle.rules.proofs.Basics.{rest_part, drop-take}
-use Rattle.rules.proofs.Words.{words_append, fault-long, words-enough}
+use Rattle.rules.proofs.Words.{words_append}
 use Rattle.packet.specs.Tests.{row_of, packets_by, counts_of, told_by, WordLaws}
 use Rattle.packet.specs.declared.Counts.{Counts}
 use Rattle.packet.specs.SoundWords.{sound_words}
@@ -132,7 +132,7 @@ module _ (fault : List ℕ → ℕ) (packet : List ℕ → Packet) (word : ℕ �
           front-fine w (length ws - at) k s (omega arith) (omega arith) row_fine
           ∙ (λ i. also (packet s) (packets_in (row_of fault packet) (n i) (k + 1) (t i)))
 
--- ---- what packets back to back tell
+  -- ---- what packets back to back tell
 
   -- the words from a place on, with the packets in front of them: what is left of the whole
   abbrev pub whole_from : ℕ → ℕ → ℕ → List ℕ → Result Counts Told

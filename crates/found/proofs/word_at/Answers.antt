@@ -1,4 +1,5 @@
 -- 8 names the first word over 3FFh, and every other number what it names anywhere.
+use native.Mathlib.Omega.{arith}
 use mathlib.Core.Path.{◌≡◌, refl}
 use mathlib.Core.Bool.{false}
 use lib.Dec.{eqb}
@@ -31,27 +32,7 @@ use Rattle.rules.specs.declared.Refusal.TheVariants.{
 use Rattle.found.proofs.word_at.Goals as goal
 
 not-eight : (r : Refusal) → (r ≡ Word → ⊥) → eqb (number r) 8 ≡ false
-not-eight Packing h = refl
-not-eight Shape h = refl
-not-eight System h = refl
-not-eight AreaLength h = refl
-not-eight PacketLimit h = refl
-not-eight Location h = refl
-not-eight Flag h = refl
-not-eight Word h = absurd (h refl)
-not-eight CutOff h = refl
-not-eight Checksum h = refl
-not-eight PacketCount h = refl
-not-eight Room h = refl
-not-eight Packs h = refl
-not-eight Length h = refl
-not-eight StoredChecksum h = refl
-not-eight Line h = refl
-not-eight Buffer h = refl
-not-eight NoLine h = refl
-not-eight Element h = refl
-not-eight PictureLine h = refl
-not-eight EightBits h = refl
+not-eight r h = grind arith
 
 pub returns-in-Word : goal.returns-in-Word
 unfolding found_word_at

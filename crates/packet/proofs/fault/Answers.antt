@@ -1,5 +1,5 @@
 -- The contract follows from its first field.
-use mathlib.Core.Path.{sym, ◌∙◌}
+use mathlib.Core.Path.{◌∙◌}
 use Rattle.rules.proofs.Judging.{judges}
 use Rattle.packet.proofs.fault.Goals as goal
 

@@ -1,12 +1,12 @@
 -- The place of the first wrong word says both times whether there is one before the place that is tested.
-use Prim.Native.Nat.{ℕ, ◌+◌, ◌≤◌}
+use Prim.Native.Nat.{ℕ, ◌+◌}
 use mathlib.Core.Path.{◌≡◌, sym, ap, ◌∙◌}
-use mathlib.Core.Bool.{true, false, not}
+use mathlib.Core.Bool.{false}
 use mathlib.Core.List.{List}
 use native.Mathlib.Omega.{arith}
 use borrow.Author.Tests.{not-true, not-false}
-use lib.ListN.{length, take, drop}
-use Rattle.rules.specs.Laying.{are_words, dc_in, words_before}
+use lib.ListN.{take, drop}
+use Rattle.rules.specs.Laying.{dc_in, words_before}
 use Rattle.packet.specs.Run.{SizeOf}
 use Rattle.packet.proofs.Faults.{unflagged, fault-flag, seven-words, fault-head, fault-size, fault-user, fault-check}
 use Rattle.packet.proofs.Faults.{wrong-head, right-head, wrong-user, right-user}
@@ -15,7 +15,6 @@ use Rattle.packet.proofs.fault_of.Goals as goal
 -- the first wrong word is looked for in the packet's own words
 wrong-is : (s : List ℕ) (n w : ℕ) → SizeOf s n → w ≡ 3 + words_before (drop 3 (take n s)) → w ≡ 3 + words_before (drop 3 (take (dc_in s + 7) s))
 wrong-is s n w z e = e ∙ ap (λ (t : List ℕ). 3 + words_before (drop 3 t)) z.front
-
 
 pub returns-then-not-is_flagged : goal.returns-then-not-is_flagged
 returns-then-not-is_flagged c = fault-flag _ (not-false _ (sym c.is_flagged.ensures ∙ c.if-not-is_flagged.true))

@@ -1,4 +1,3 @@
-use mathlib.Core.Path.{ap}
 use Rattle.rules.specs.Laying.{is_word}
 use Rattle.packet.proofs.is_right.Goals as goal
 

@@ -1,11 +1,11 @@
 -- Each way through the loop by what it says of the rules.
-use Prim.Native.Nat.{ℕ, ◌+◌, ◌-◌, ◌*◌, ◌%◌, ◌≤◌}
+use Prim.Native.Nat.{ℕ, ◌+◌, ◌-◌, ◌*◌}
 use mathlib.Core.Path.{◌≡◌, refl, sym, ap, ◌∙◌}
 use mathlib.Core.Bool.{true}
 use mathlib.Core.List.{List}
 use native.Mathlib.Omega.{arith}
 use lib.Dec.{eqb}
-use lib.ListN.{length, get_or, take, drop}
+use lib.ListN.{length, take, drop}
 use Rattle.std.proofs.Common.{Err}
 use Rattle.packet.proofs.Row.{no-packets, at_first, at-end, at-fault, row-there, at_next, place_next}
 use Rattle.packet.proofs.packets.Goals as goal

@@ -1,5 +1,5 @@
 -- The word here is right, and those before it are.
-use mathlib.Core.Path.{◌≡◌, sym, ◌∙◌}
+use mathlib.Core.Path.{sym, ◌∙◌}
 use Rattle.rules.specs.Laying.{is_word, are_words, words_before}
 use Rattle.packet.proofs.Laws.{each_word, search-next}
 use Rattle.packet.proofs.right_words.Goals as goal

@@ -1,58 +1,17 @@
 -- Each refusal of a packet names its word, and no other refusal does.
 use Prim.Native.Nat.{ℕ}
-use mathlib.Core.Path.{◌≡◌, refl}
+use native.Mathlib.Omega.{arith}
+use mathlib.Core.Path.{◌≡◌}
 use mathlib.Core.List.{List}
 use Rattle.rules.specs.Laying.{word_at}
 use Rattle.rules.specs.Refusals.{number}
 use Rattle.rules.specs.declared.Refusal.{Refusal}
-use Rattle.rules.specs.declared.Refusal.TheVariants.{
-  Packing,
-  Shape,
-  System,
-  AreaLength,
-  PacketLimit,
-  Location,
-  Flag,
-  Word,
-  CutOff,
-  Checksum,
-  PacketCount,
-  Room,
-  Packs,
-  Length,
-  StoredChecksum,
-  Line,
-  Buffer,
-  NoLine,
-  Element,
-  PictureLine,
-  EightBits,
-}
+use Rattle.rules.specs.declared.Refusal.TheVariants.{Flag, Word, CutOff, Checksum}
 use Rattle.packet.proofs.word_at.Goals as goal
 
 none_named : (r : Refusal) (s : List ℕ) → (r ≡ Flag → ⊥) → (r ≡ Word → ⊥) → (r ≡ CutOff → ⊥) → (r ≡ Checksum → ⊥) → 0 ≡ word_at (number r) s
 unfolding word_at
-none_named Packing s a b d e = refl
-none_named Shape s a b d e = refl
-none_named System s a b d e = refl
-none_named AreaLength s a b d e = refl
-none_named PacketLimit s a b d e = refl
-none_named Location s a b d e = refl
-none_named Flag s a b d e = absurd (a refl)
-none_named Word s a b d e = absurd (b refl)
-none_named CutOff s a b d e = absurd (d refl)
-none_named Checksum s a b d e = absurd (e refl)
-none_named PacketCount s a b d e = refl
-none_named Room s a b d e = refl
-none_named Packs s a b d e = refl
-none_named Length s a b d e = refl
-none_named StoredChecksum s a b d e = refl
-none_named Line s a b d e = refl
-none_named Buffer s a b d e = refl
-none_named NoLine s a b d e = refl
-none_named Element s a b d e = refl
-none_named PictureLine s a b d e = refl
-none_named EightBits s a b d e = refl
+none_named r s a b d e = grind arith
 
 pub returns-in-Flag : goal.returns-in-Flag
 unfolding word_at
