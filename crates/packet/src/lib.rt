@@ -2,8 +2,8 @@
 // What each function gives is a definition of the crate rules.
 #![tactic(auto)]
 
-ghost use Rattle.rules.specs.Laying.{◌≡◌, ℕ, ◌+◌, ◌-◌, ◌*◌, ◌/◌, ◌%◌, ◌≤◌, ◌<◌, false};
-ghost use Rattle.rules.specs.Laying.{not, ◌||◌, List, eqb, ltb, length, drop};
+ghost use Rattle.std.specs.Prelude.{◌≡◌, ℕ, ◌+◌, ◌-◌, ◌*◌, ◌/◌, ◌%◌, ◌≤◌, ◌<◌, false};
+ghost use Rattle.std.specs.Prelude.{not, ◌||◌, List, eqb, ltb, length, drop};
 ghost use Rattle.rules.specs.Packet.{Packet, word, check};
 ghost use Rattle.rules.specs.Laying.{is_word, flagged, words_fault, packet_of_words, dc_in, words_before, flag_word, word_at, type_of, judged};
 ghost use Rattle.rules.specs.Refusals.{number, tell, told, told_of};

@@ -3,18 +3,17 @@
 -- In order: the shape (2); locations (6, 20); the list (5, 6, 20, 7 to 10, 11); the sheet (2, 3).
 -- Assumes nothing.
 use Prim.Native.Nat.{ℕ, zero, suc, ◌+◌, ◌-◌, ◌*◌, ◌/◌, ◌≤◌, ◌<◌}
-use mathlib.Core.Path.{◌≡◌, refl, sym, ap, ap₂, ◌∙◌}
-use mathlib.Core.Logic.{◌⊎◌, inl, inr}
+use mathlib.Core.Path.{◌≡◌, refl, sym, ap, ◌∙◌}
 use mathlib.Core.Bool.{Bool, true, false, cond, not, ◌&&◌}
 use mathlib.Core.List.{List, [], ◌∷◌}
-use Rattle.std.proofs.Common.{Option, Some, None, Result, Ok, Err}
+use Rattle.std.proofs.Common.{Some, None, Result, Ok, Err}
 use native.Mathlib.Nat.{zero-add}
 use native.Mathlib.Numerals.{add-one}
 use native.Mathlib.Omega.{arith}
 use lib.Dec.{eqb, ltb, leb, eqb-suc-suc, eqb-zero-suc}
 use lib.ListN.{length, get_or, take, drop, length-drop}
 use lib.Seq.{length-take-le, drop-cons}
-use borrow.Author.Tests.{eqb-true, eqb-false, leb-true, not-true, not-false, lt-ltb, le-ltb, le-leb, lt-leb, eq-eqb, ne_eqb}
+use borrow.Author.Tests.{leb-true, not-true, not-false, lt-ltb, le-ltb, le-leb, lt-leb, eq-eqb, ne_eqb}
 use Rattle.rules.specs.Systems.{System, system, stands, allowed}
 use Rattle.rules.specs.Packet.{Packet}
 use Rattle.rules.specs.Danc.{bytes_of}
@@ -30,7 +29,7 @@ use Rattle.rules.proofs.Basics.{both, second-false, rest_part}
 use Rattle.rules.proofs.Lines.{allowed-stands}
 use Rattle.packet.specs.Tests.{packets_by, counts_of, told_by, WordLaws}
 use Rattle.packet.specs.declared.Counts.{Counts}
-use Rattle.frame.specs.Systems.{figures_of, figures_found}
+use Rattle.frame.specs.Systems.{figures_found}
 use Rattle.frame.specs.declared.Figures.{Figures}
 use Rattle.frame.proofs.Laws.{last-is, found_known, found_is, found_none}
 use Rattle.sheet.specs.Standing.{location_tests, in_front, in_place, AllInPlace}
@@ -386,7 +385,7 @@ module _ (fault : List ℕ → ℕ) (packet : List ℕ → Packet) (word : ℕ �
 
         pub list-refused : (t : Told)
             → ((y : System) → y.last ≡ x.last_line.0
-                → Err t ≡ told_by word counts_of (words_in s) (list_tests_by (packets_by fault packet) y s))
+            → Err t ≡ told_by word counts_of (words_in s) (list_tests_by (packets_by fault packet) y s))
             → Err t ≡ told_sheet fault packet word s
         list-refused t h = go (list_tests_by (packets_by fault packet) own s) (h own its-last) ∙ sym tests-are
           where
@@ -396,7 +395,7 @@ module _ (fault : List ℕ → ℕ) (packet : List ℕ → Packet) (word : ℕ �
 
         pub list-stands : (c : Counts)
             → ((y : System) → y.last ≡ x.last_line.0
-                → Ok c ≡ told_by word counts_of (words_in s) (list_tests_by (packets_by fault packet) y s))
+            → Ok c ≡ told_by word counts_of (words_in s) (list_tests_by (packets_by fault packet) y s))
             → Ok (record { system = sys; counts = c }) ≡ told_sheet fault packet word s
         list-stands c h = go (list_tests_by (packets_by fault packet) own s) (h own its-last) ∙ sym tests-are
           where

@@ -55,8 +55,8 @@ returns-in-Some c =
     let h = c.in-Ok.header in
     let p : is_packing c.args.packing ≡ true =
     elim c.else-packing-ne1.branch [
-      else-packing-ne1-via-then-packing-ne1+else-packing-ne2 w ↦ packing-2 _ w.if-packing-ne1.true w.if-packing-ne2.false
-    | else-packing-ne1-via-else-packing-ne1 w ↦ packing-1 _ w.if-packing-ne1.false
+      | else-packing-ne1-via-then-packing-ne1+else-packing-ne2 w ↦ packing-2 _ w.if-packing-ne1.true w.if-packing-ne2.false
+      | else-packing-ne1-via-else-packing-ne1 w ↦ packing-1 _ w.if-packing-ne1.false
     ]
     in
     by-area c.args.packing s c.args.bytes (tested_from (Ok h)) (tests _ _ (tested-is s (Ok h) c.in-Ok.ensures)) p refl c.in-Some.figures

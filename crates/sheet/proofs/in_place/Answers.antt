@@ -1,5 +1,5 @@
 -- The pair here is in place, or it is the first that is not, or there is none.
-use Prim.Native.Nat.{ℕ, ◌/◌}
+use Prim.Native.Nat.{◌/◌}
 use mathlib.Core.Path.{◌≡◌, sym, ◌∙◌}
 use native.Mathlib.Omega.{arith}
 use lib.ListN.{length}
@@ -12,10 +12,10 @@ pub returns-then-ls-k-gt3 : goal.returns-then-ls-k-gt3
 returns-then-ls-k-gt3 c y e =
     let k = c.loop-k.k in
     elim c.then-ls-k-gt3.branch [
-      then-ls-k-gt3-via-then-ls-k-gt3 w ↦ place-flags y _ e k c.args.ls.now (omega arith) (omega arith) ∙ c.loop-k.invariant y e
-    | then-ls-k-gt3-via-else-ls-k-gt3+then-not-may_stand w ↦
-      place-line y _ e k c.args.ls.now (omega arith) (sym (w.may_stand.ensures y e) ∙ w.if-not-may_stand.true)
-      ∙ c.loop-k.invariant y e
+      | then-ls-k-gt3-via-then-ls-k-gt3 w ↦ place-flags y _ e k c.args.ls.now (omega arith) (omega arith) ∙ c.loop-k.invariant y e
+      | then-ls-k-gt3-via-else-ls-k-gt3+then-not-may_stand w ↦
+          place-line y _ e k c.args.ls.now (omega arith) (sym (w.may_stand.ensures y e) ∙ w.if-not-may_stand.true)
+          ∙ c.loop-k.invariant y e
     ]
 
 pub loop-k-preserved : goal.loop-k-preserved

@@ -1,12 +1,9 @@
 -- A test at a time, for every system with this last line.
-use Prim.Native.Nat.{ℕ, ◌+◌, ◌*◌, ◌≤◌}
-use mathlib.Core.Path.{◌≡◌, sym, ap, ◌∙◌}
-use mathlib.Core.List.{List}
+use mathlib.Core.Path.{ap, ◌∙◌}
 use native.Mathlib.Omega.{arith}
-use lib.ListN.{length}
 use Rattle.std.proofs.Common.{Err}
 use Rattle.std.proofs.lemmas.Result.{err_from_is_err_and}
-use Rattle.rules.specs.Sheet.{limit, count_in}
+use Rattle.rules.specs.Sheet.{limit}
 use Rattle.sheet.proofs.Laws.{shaped-long, too_many, pairs, location-refused, packet-refused, differ, whole}
 use Rattle.sheet.proofs.list_tests.Goals as goal
 

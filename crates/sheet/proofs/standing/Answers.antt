@@ -1,5 +1,5 @@
 -- The pair here stands, or it is the first that does not, or there is none.
-use Prim.Native.Nat.{ℕ, ◌/◌}
+use Prim.Native.Nat.{◌/◌}
 use mathlib.Core.Path.{◌≡◌, ◌∙◌}
 use native.Mathlib.Omega.{arith}
 use lib.ListN.{length}
@@ -12,8 +12,8 @@ pub returns-then-ls-k : goal.returns-then-ls-k
 returns-then-ls-k c y e =
     let k = c.loop-k.k in
     elim c.then-ls-k.branch [
-      then-ls-k-via-then-ls-k w ↦ line-past y _ e k c.args.ls.now (omega arith) (omega arith) ∙ c.loop-k.invariant y e
-    | then-ls-k-via-else-ls-k+then-ls-k-gt3 w ↦ flags-past y _ e k c.args.ls.now (omega arith) (omega arith) ∙ c.loop-k.invariant y e
+      | then-ls-k-via-then-ls-k w ↦ line-past y _ e k c.args.ls.now (omega arith) (omega arith) ∙ c.loop-k.invariant y e
+      | then-ls-k-via-else-ls-k+then-ls-k-gt3 w ↦ flags-past y _ e k c.args.ls.now (omega arith) (omega arith) ∙ c.loop-k.invariant y e
     ]
 
 pub loop-k-preserved : goal.loop-k-preserved
