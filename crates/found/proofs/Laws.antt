@@ -2,22 +2,20 @@
 --
 -- In order: words over 3FFh; the tests of a packet; the sheet; the contract.
 -- Assumes nothing.
-use Prim.Native.Nat.{ℕ, suc, ◌+◌, ◌-◌, ◌*◌, ◌%◌, ◌≤◌, ◌<◌}
+use Prim.Native.Nat.{ℕ, ◌+◌, ◌≤◌, ◌<◌}
 use mathlib.Core.Path.{◌≡◌, refl, sym, ap, subst, ◌∙◌}
-use mathlib.Core.Logic.{◌⊎◌, inl, inr}
 use mathlib.Core.Bool.{Bool, true, false, cond, not, ◌&&◌}
 use mathlib.Core.List.{List, [], ◌∷◌, ◌++◌}
-use native.Mathlib.Nat.{add-zero, zero-add, sub-zero}
 use native.Mathlib.Omega.{arith}
 use lib.Dec.{eqb}
 use lib.ListN.{length, get_or, take, drop, length-drop}
 use lib.Seq.{get_or-drop, drop-cons, take-add}
-use borrow.Author.Tests.{le-ltb, eq-eqb, ne_eqb}
+use borrow.Author.Tests.{le-ltb, ne_eqb}
 use Rattle.std.proofs.Common.{Result, Ok, Err}
 use Rattle.rules.specs.Packet.{Packet}
 use Rattle.rules.specs.Sheet.{system_in, words_in}
 use Rattle.rules.specs.Numbers.{Outcome, listed, refused}
-use Rattle.rules.specs.Laying.{dc_in, from_packet}
+use Rattle.rules.specs.Laying.{dc_in}
 use Rattle.rules.specs.Found.{is_ten, are_ten, ten_before, found_fault, found_of_words, found_row, packets_found, found_word_at}
 use Rattle.rules.specs.Found.{found_tests, SheetFound}
 use Rattle.rules.specs.Refusals.{Told, told_of}

@@ -1,5 +1,5 @@
 -- The word here is not over 3FFh, and those before it are not.
-use mathlib.Core.Path.{◌≡◌, ◌∙◌}
+use mathlib.Core.Path.{◌∙◌}
 use borrow.Author.Tests.{le-leb}
 use Rattle.rules.specs.Found.{is_ten, are_ten, ten_before}
 use Rattle.packet.proofs.Laws.{search-next}

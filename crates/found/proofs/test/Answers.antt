@@ -1,5 +1,4 @@
 -- The contract follows from its first field.
-use Rattle.std.proofs.Common.{Ok, Err}
 use Rattle.std.proofs.lemmas.Result.{err_from_is_err_and}
 use Rattle.found.proofs.Laws.{sheet-refused, sheet-passes, checks}
 use Rattle.found.proofs.test.Goals as goal

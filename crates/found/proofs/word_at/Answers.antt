@@ -1,34 +1,12 @@
 -- 8 names the first word over 3FFh, and every other number what it names anywhere.
 use native.Mathlib.Omega.{arith}
-use mathlib.Core.Path.{◌≡◌, refl}
+use mathlib.Core.Path.{◌≡◌}
 use mathlib.Core.Bool.{false}
 use lib.Dec.{eqb}
 use Rattle.rules.specs.Found.{found_word_at}
 use Rattle.rules.specs.Refusals.{number}
 use Rattle.rules.specs.declared.Refusal.{Refusal}
-use Rattle.rules.specs.declared.Refusal.TheVariants.{
-  Packing,
-  Shape,
-  System,
-  AreaLength,
-  PacketLimit,
-  Location,
-  Flag,
-  Word,
-  CutOff,
-  Checksum,
-  PacketCount,
-  Room,
-  Packs,
-  Length,
-  StoredChecksum,
-  Line,
-  Buffer,
-  NoLine,
-  Element,
-  PictureLine,
-  EightBits,
-}
+use Rattle.rules.specs.declared.Refusal.TheVariants.{Word}
 use Rattle.found.proofs.word_at.Goals as goal
 
 not-eight : (r : Refusal) → (r ≡ Word → ⊥) → eqb (number r) 8 ≡ false
