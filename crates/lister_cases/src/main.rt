@@ -12,10 +12,7 @@ const ROOM: usize = sheet_file::LONGEST + 1;
 // A case's length, as far as there is room.
 fn size(head: &[u8; 4]) -> usize {
     let n = wide(head[1]) * 65536 + wide(head[2]) * 256 + wide(head[3]);
-    if ROOM < n {
-        return ROOM;
-    }
-    n
+    n.min(ROOM)
 }
 
 fn show(rt: &impl Print, file: &[u8]) -> io::Result<()> {
@@ -38,12 +35,10 @@ fn list_next(rt: &impl Print, cases: &mut File) -> io::Result<bool> {
 
 fn main(rt: HostRuntime) -> io::Result<()> {
     let mut cases = File::open(&rt, "cases")?;
-    let mut left: usize = 4096;
-    while 0 < left {
+    for _ in 0..4096 {
         if !list_next(&rt, &mut cases)? {
             return Ok(());
         }
-        left -= 1;
     }
     Ok(())
 }
