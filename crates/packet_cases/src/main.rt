@@ -42,12 +42,10 @@ fn word_for_word(ws: &[u16]) -> bool {
         return false;
     }
     let last = ws.len() - 1;
-    let mut i = 3;
-    while i < last {
-        if packet::word_of((ws[i] % 256) as u8) != ws[i] {
+    for w in &ws[3..last] {
+        if packet::word_of((*w % 256) as u8) != *w {
             return false;
         }
-        i += 1;
     }
     packet::check_of(&ws[3..last]) == ws[last]
 }
@@ -75,15 +73,13 @@ fn flips(ws: &mut [u16], i: usize, number: u64) -> u64
 {
     let w = ws[i];
     let mut bit: u16 = 1;
-    let mut done: u64 = 0;
     let mut good: u64 = 0;
-    while done < 10 {
+    for _ in 0..10u64 {
         ws[i] = w ^ bit;
         if is_refusal(packet::fault(ws), number, i) {
             good += 1;
         }
         bit = bit % 32768 * 2;
-        done += 1;
     }
     ws[i] = w;
     good
@@ -123,12 +119,10 @@ fn counted(c: Counts, number: u64, good: u64) -> Counts {
 
 fn all_flips(ws: &mut [u16], from: Counts) -> Counts {
     let mut c = from;
-    let mut i = 0;
-    while i < ws.len() {
+    for i in 0..ws.len() {
         let number = right_number(i, ws.len() - i);
         let good = flips(ws, i, number);
         c = counted(c, number, good);
-        i += 1;
     }
     c
 }
