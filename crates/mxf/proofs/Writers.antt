@@ -303,7 +303,8 @@ module _ {w : Writer} {sys : ℕ} {fi : Bool} {ls ws : List ℕ} {k at packets b
               e ∙ ap (written_by (w.make sys)) (sym x)
 
       -- one that is served, and has a line
-      pub measure-taken : {packets₁ bytes₁ : ℕ} → b ≡ true → (get_or ls (2 * k) 0 ≡ 0 → ⊥) → packets₁ ≡ packets + 1 → bytes₁ ≡ bytes + size_by w.coding dc
+      pub measure-taken : {packets₁ bytes₁ : ℕ} → b ≡ true → (get_or ls (2 * k) 0 ≡ 0 → ⊥) → packets₁ ≡ packets + 1
+          → bytes₁ ≡ bytes + size_by w.coding dc
           → Measuring w sys fi ls ws (k + 1) (at + (dc + 7)) packets₁ bytes₁
       measure-taken {packets₁} {bytes₁} t z ep eb = record {
         of = λ y ps h. go y ps (so.of y ps h) (measure-next y ps h);

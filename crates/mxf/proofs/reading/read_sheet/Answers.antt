@@ -60,9 +60,11 @@ returns-then-k-j g c =
     let f = sym c.in-Some.is ∙ c.figures_of.ensures in
     let is = last-is a.system c.in-Some.figures (found_is a.system _ f) in
     let h = c.in-Ok.ensures is a.fi in
+    let found = structs-are k a.system a.fi a.element.now a.sheet.now (told_read (Ok c.in-Ok.j)) h refl in
     known-system a.system (judged_as k a.system a.fi a.element.now) a.sheet.now _ _ (found_known a.system _ f)
     (not-allowed k a.system a.fi a.element.now a.sheet.now (told_read (Ok c.in-Ok.j)) h refl c.allowed-k.result
-    (c.allowed-k.ensures (record { coding = k; sys = a.system; fi = a.fi; judged = structs-are k a.system a.fi a.element.now a.sheet.now (told_read (Ok c.in-Ok.j)) h refl }) (system a.system) (sym is))
+    (c.allowed-k.ensures
+    (record { coding = k; sys = a.system; fi = a.fi; judged = found }) (system a.system) (sym is))
     c.if-k-j.true _ refl)
 
 pub written-requires : goal.written-requires
@@ -81,7 +83,9 @@ returns-else-k-j g c =
     let f = sym c.in-Some.is ∙ c.figures_of.ensures in
     let is = last-is a.system c.in-Some.figures (found_is a.system _ f) in
     let h = c.in-Ok.ensures is a.fi in
+    let found = structs-are k a.system a.fi a.element.now a.sheet.now (told_read (Ok c.in-Ok.j)) h refl in
     known-system a.system (judged_as k a.system a.fi a.element.now) a.sheet.now _ _ (found_known a.system _ f)
     (all-allowed k a.system a.fi a.element.now a.sheet.now (told_read (Ok c.in-Ok.j)) h refl c.allowed-k.result
-    (c.allowed-k.ensures (record { coding = k; sys = a.system; fi = a.fi; judged = structs-are k a.system a.fi a.element.now a.sheet.now (told_read (Ok c.in-Ok.j)) h refl }) (system a.system) (sym is))
+    (c.allowed-k.ensures
+    (record { coding = k; sys = a.system; fi = a.fi; judged = found }) (system a.system) (sym is))
     c.if-k-j.false _ _ c.written.ensures)

@@ -69,10 +69,12 @@ loop-k-preserved g c =
         structures-kept so w.put_structure.new.out w.out-is w.o-is w.put_structure.auto.out ∙ c.loop-k.invariant.1,
         structures-taken so (omega arith) dc.ensures c.serves.ensures w.if-serves.true refl
             (λ y left m.
-            structure-next g.S.Samples.writer m dc.ensures refl (ap (λ i. c.loop-k.at + 3 + (dc.result + i)) (w.OTHERS.ensures ∙ g.met.S.Samples.named.2)) c.args.system
+            structure-next g.S.Samples.writer m dc.ensures refl
+            (ap (λ i. c.loop-k.at + 3 + (dc.result + i)) (w.OTHERS.ensures ∙ g.met.S.Samples.named.2)) c.args.system
             c.wrapping-wrapping.ensures w.put_structure.ensures)
             w.out-is w.o-is
-            (ap (λ i. c.loop-k.o + (14 + i)) (w.array_bytes.ensures ∙ ap (λ i. array_for code (dc.result + i)) (w.OTHERS.ensures ∙ g.met.S.Samples.named.2)))
+            (ap (λ i. c.loop-k.o + (14 + i)) (w.array_bytes.ensures
+            ∙ ap (λ i. array_for code (dc.result + i)) (w.OTHERS.ensures ∙ g.met.S.Samples.named.2)))
             w.put_structure.auto.out,
       )
       | else-serves w ↦ (

@@ -20,11 +20,13 @@ pub returns-in_err-m : goal.returns-in_err-m
 returns-in_err-m g c =
     let p = err_from_is_err_and c.from_residual.result c.from_residual.ensures.1 in
     rw (p.1, p.2)
-    (not-lined g.S.Samples.writer c.args.system c.args.fi c.args.sheet.now c.args.element.now c.section_b-ls.ensures c.section_c-ws.ensures _ c.in_err-m.ensures (number-some _))
+    (not-lined g.S.Samples.writer c.args.system c.args.fi c.args.sheet.now c.args.element.now
+    c.section_b-ls.ensures c.section_c-ws.ensures _ c.in_err-m.ensures (number-some _))
 
 pub returns-then-element-m : goal.returns-then-element-m
 returns-then-element-m g c =
-    no_room g.S.Samples.writer c.args.system c.args.fi c.args.sheet.now c.args.element.now c.section_b-ls.ensures c.section_c-ws.ensures _ c.in_ok-m.ensures refl _ c.if-element-m.true refl
+    no_room g.S.Samples.writer c.args.system c.args.fi c.args.sheet.now c.args.element.now
+    c.section_b-ls.ensures c.section_c-ws.ensures _ c.in_ok-m.ensures refl _ c.if-element-m.true refl
 
 pub overflow_cast-m : goal.overflow_cast-m
 unfolding limit
@@ -57,5 +59,6 @@ put_element-requires-clause-packets_value g c = λ y ps h.
 
 pub returns : goal.returns
 returns g c =
-    element-written g.S.Samples.writer c.args.system c.args.fi c.args.sheet.now c.args.element.now c.section_b-ls.ensures c.section_c-ws.ensures _ c.in_ok-m.ensures refl _ c.if-element-m.false
+    element-written g.S.Samples.writer c.args.system c.args.fi c.args.sheet.now c.args.element.now
+    c.section_b-ls.ensures c.section_c-ws.ensures _ c.in_ok-m.ensures refl _ c.if-element-m.false
     c.put_element.ensures
