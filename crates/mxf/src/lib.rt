@@ -24,13 +24,13 @@ const KEY: [u8; 16] = [
 const LONG_FORM: u8 = 0x83;
 
 // Bytes before the first structure: key, length, N.
-pub const HEAD: usize = 22;
+const HEAD: usize = 22;
 
 // Bytes of a structure before its samples: line, wrapping, coding, sample count, array count, array element length (004, table 7).
-pub const FIELDS: usize = 14;
+const FIELDS: usize = 14;
 
 // "Wrapping is VANC frame for 1080, VANC progressive frame for 720" (document 02, A1).
-pub fn wrapping(system: u64) -> u8
+fn wrapping(system: u64) -> u8
     ensures { result ≡ wrappingOf system }
 {
     if system == 3 {
