@@ -38,27 +38,7 @@ use Rattle.profile.proofs.comes_to_room.Goals.{else-packing-ne1-via-then-packing
 
 -- no refusal has the number of success
 refusing : (r : Refusal) → number r ≡ 0 → ⊥
-refusing Packing e = omega arith
-refusing Shape e = omega arith
-refusing System e = omega arith
-refusing AreaLength e = omega arith
-refusing PacketLimit e = omega arith
-refusing Location e = omega arith
-refusing Flag e = omega arith
-refusing Word e = omega arith
-refusing CutOff e = omega arith
-refusing Checksum e = omega arith
-refusing PacketCount e = omega arith
-refusing Room e = omega arith
-refusing Packs e = omega arith
-refusing Length e = omega arith
-refusing StoredChecksum e = omega arith
-refusing Line e = omega arith
-refusing Buffer e = omega arith
-refusing NoLine e = omega arith
-refusing Element e = omega arith
-refusing PictureLine e = omega arith
-refusing EightBits e = omega arith
+refusing r e = grind arith
 
 pub returns-then-packing-ne2 : goal.returns-then-packing-ne2
 returns-then-packing-ne2 c = not-packing c.args.packing c.args.sheet.now c.args.bytes c.if-packing-ne1.true c.if-packing-ne2.true
@@ -75,8 +55,8 @@ returns-in-Some c =
     let h = c.in-Ok.header in
     let p : is_packing c.args.packing ≡ true =
     elim c.else-packing-ne1.branch [
-      else-packing-ne1-via-then-packing-ne1+else-packing-ne2 w ↦ packing-2 _ w.if-packing-ne1.true w.if-packing-ne2.false
-    | else-packing-ne1-via-else-packing-ne1 w ↦ packing-1 _ w.if-packing-ne1.false
+      | else-packing-ne1-via-then-packing-ne1+else-packing-ne2 w ↦ packing-2 _ w.if-packing-ne1.true w.if-packing-ne2.false
+      | else-packing-ne1-via-else-packing-ne1 w ↦ packing-1 _ w.if-packing-ne1.false
     ]
     in
     by-area c.args.packing s c.args.bytes (tested_from (Ok h)) (tests _ _ (tested-is s (Ok h) c.in-Ok.ensures)) p refl c.in-Some.figures

@@ -16,8 +16,8 @@ returns-then-comes_to_room c =
 pub returns : goal.returns
 returns c =
     elim c.match-first_outside.branch [
-      in-Some+else-comes_to_room w ↦
-      lays-early _ _ _ _ c.section_c.ensures _ c.first_outside.ensures
-      (subst (Answers _ _ _) w.if-comes_to_room.false w.comes_to_room.ensures) _ _ c.lay.ensures
-    | in_default w ↦ lays-within _ _ _ _ c.section_c.ensures _ c.first_outside.ensures w.in_default.is _ _ c.lay.ensures
+      | in-Some+else-comes_to_room w ↦
+          lays-early _ _ _ _ c.section_c.ensures _ c.first_outside.ensures
+          (subst (Answers _ _ _) w.if-comes_to_room.false w.comes_to_room.ensures) _ _ c.lay.ensures
+      | in_default w ↦ lays-within _ _ _ _ c.section_c.ensures _ c.first_outside.ensures w.in_default.is _ _ c.lay.ensures
     ]
