@@ -10,26 +10,20 @@ fn line(rt: &impl Print, n: u8, q: u8, j: u8, i: u8) -> io::Result<()> {
     println!(rt; "{q} VA {j},{i} {start}")
 }
 
-// Within a block by channel.
-fn channels(rt: &impl Print, n: u8, q: u8, j: u8) -> io::Result<()> {
-    line(rt, n, q, j, 0)?;
-    line(rt, n, q, j, 1)?;
-    line(rt, n, q, j, 2)?;
-    line(rt, n, q, j, 3)
-}
-
-// By sequence, within it by block.
-fn sequences(rt: &impl Print, n: u8) -> io::Result<()> {
+// By sequence, within it by block, within that by channel.
+fn blocks(rt: &impl Print, n: u8) -> io::Result<()> {
     for q in 0..n {
-        channels(rt, n, q, 0)?;
-        channels(rt, n, q, 1)?;
-        channels(rt, n, q, 2)?;
+        for j in 0..3 {
+            for i in 0..4 {
+                line(rt, n, q, j, i)?;
+            }
+        }
     }
     Ok(())
 }
 
 fn main(rt: HostRuntime) -> io::Result<()> {
-    sequences(&rt, Hd1080x60i::SEQUENCES as u8)?;
-    sequences(&rt, Hd1080x50i::SEQUENCES as u8)?;
-    sequences(&rt, Hd720x60p::SEQUENCES as u8)
+    blocks(&rt, Hd1080x60i::SEQUENCES as u8)?;
+    blocks(&rt, Hd1080x50i::SEQUENCES as u8)?;
+    blocks(&rt, Hd720x60p::SEQUENCES as u8)
 }
