@@ -77,15 +77,18 @@ def rattle_limit(frame):
     return re.search(r"^pub const LIMIT: \w+ = (\d+);$", frame, flags=re.M).group(1)
 
 
-def rattle_words(text, limit):
-    """The arms of the table: a number, and the text that is put; behind a label stands the packet limit."""
-    arm = r'\b(\d+) => \{?\s*(?:\w+::)*put_(text|labelled)\(\s*\w+,\s*\w+,\s*b"([^"\\]*)",?\s*((?:\w+::)*LIMIT\b[^,()]*,?\s*)?\)'
-    found = []
-    for number, kind, words, behind in re.findall(arm, without_comments(text)):
-        if (kind == "labelled") != bool(behind):
-            raise SystemExit(f"the table of words: arm {number} is neither a text nor a label with the limit")
-        found.append((int(number), words + limit if behind else words))
-    return found
+def refusal_numbers(text):
+    """The numbers of the refusals by their names."""
+    body = re.search(r"^pub enum Refusal \{(.*?)^\}", without_comments(text), flags=re.M | re.S).group(1)
+    return {name: int(number) for name, number in re.findall(r"(\w+) = (\d+),", body)}
+
+
+def rattle_words(text, numbers, limit):
+    """The arms of the table, to the last number that the command gives: a refusal, and its words, which may have the packet limit in them."""
+    last = int(re.search(r"^pub const LAST: \w+ = (\d+);$", text, flags=re.M).group(1))
+    arm = r'\bRefusal::(\w+) => (?:\{\s*|return write!\(f, )?"([^"\\]*)"'
+    found = [(numbers[name], words.replace("{LIMIT}", limit)) for name, words in re.findall(arm, without_comments(text))]
+    return [(number, words) for number, words in found if number <= last]
 
 
 def rattle_structs(text):
@@ -201,7 +204,7 @@ def main():
     header, symbols, toolchain, refusals, frame = [open(path).read() for path in sys.argv[1:6]]
     rattle = "\n".join(open(path).read() for path in sys.argv[6:])
     toolchain = toolchain.rstrip("\n")
-    words = rattle_words(refusals, rattle_limit(frame))
+    words = rattle_words(refusals, refusal_numbers(rattle), rattle_limit(frame))
     said = differences(header, symbols, toolchain, words, rattle)
     for old, new in WRONG:
         wrong = header.replace(old, new, 1)

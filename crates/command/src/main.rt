@@ -2,62 +2,56 @@
 // stream that could not be read or written. A pipe that nobody reads is an error of the write, since the start of every program ignores SIGPIPE.
 #![tactic(auto)]
 
-use console::ending::{DONE, FAILED, REFUSED};
+ghost use Rattle.std.specs.Prelude.{◌≤◌};
+
+use console::ending::{Ended, Status};
 use console::{arguments, ending};
+use element_commands::samples::Samples;
 use element_commands::{read as mxf_read, write as mxf_write};
+use files::Failed;
 use frame_commands::{lay, list, read};
 use manual::names::Command;
 use manual::{help, names};
 use std::process::ExitCode;
 
-// `vanc NAME --help`: the one argument behind a command's name.
-fn asks_for_help(rt: &HostRuntime, count: usize) -> bool {
-    if count != 3 {
-        return false;
-    }
-    let mut word = io::buffer();
-    let n = arguments::word(rt, 2, &mut word);
-    text::is(&word[..n], b"--help")
+// Whether argument i is this word.
+fn is(rt: &HostRuntime, i: usize, word: &[u8]) -> bool {
+    arguments::word(rt, i).as_bytes() == word
 }
 
-fn is_ten(rt: &HostRuntime, i: usize) -> bool {
-    let mut word = io::buffer();
-    let n = arguments::word(rt, i, &mut word);
-    text::is(&word[..n], b"--ten")
+// `--ten` stands behind all other arguments, of which i is the last. In its place it is refused, so that no file gets that name where one was forgotten.
+// None where the command is called otherwise.
+fn samples(rt: &HostRuntime, i: usize, count: usize) -> Option<Samples>
+    requires { i ≤ 5 }
+{
+    if is(rt, i, b"--ten") {
+        return None;
+    }
+    if count == i + 1 {
+        return Some(Samples::EightBits);
+    }
+    is(rt, i + 1, b"--ten").then_some(Samples::TenBits)
 }
 
-// `--ten` stands behind all other arguments. In place of the last of them it is refused, so that no file gets that name where one was forgotten.
-fn write_element(rt: &HostRuntime, count: usize) -> i32 {
-    if is_ten(rt, 4) {
-        return names::say_usage(rt, Command::MxfWrite);
+fn write_element(rt: &HostRuntime, count: usize) -> Ended {
+    match samples(rt, 4, count) {
+        Some(samples) => mxf_write::run(rt, samples),
+        None => Err(Command::MxfWrite.fail_usage(rt)),
     }
-    if count == 5 {
-        return mxf_write::run(rt, false);
-    }
-    if is_ten(rt, 5) {
-        return mxf_write::run(rt, true);
-    }
-    names::say_usage(rt, Command::MxfWrite)
 }
 
-fn read_element(rt: &HostRuntime, count: usize) -> i32 {
-    if is_ten(rt, 5) {
-        return names::say_usage(rt, Command::MxfRead);
+fn read_element(rt: &HostRuntime, count: usize) -> Ended {
+    match samples(rt, 5, count) {
+        Some(samples) => mxf_read::run(rt, samples),
+        None => Err(Command::MxfRead.fail_usage(rt)),
     }
-    if count == 6 {
-        return mxf_read::run(rt, false);
-    }
-    if is_ten(rt, 6) {
-        return mxf_read::run(rt, true);
-    }
-    names::say_usage(rt, Command::MxfRead)
 }
 
-fn run(rt: &HostRuntime, c: Command, name: &[u8], count: usize) -> i32 {
-    if !names::takes(c, count) {
-        return names::say_usage(rt, c);
+fn run(rt: &HostRuntime, command: Command, count: usize) -> Ended {
+    if !command.takes(count) {
+        return Err(command.fail_usage(rt));
     }
-    match c {
+    match command {
         Command::List => list::run(rt, count),
         Command::Lay => lay::run(rt),
         Command::Read => read::run(rt),
@@ -66,37 +60,36 @@ fn run(rt: &HostRuntime, c: Command, name: &[u8], count: usize) -> i32 {
         Command::Help => help::run(rt, count),
         Command::HelpOption => help::overview(rt),
         Command::Version => help::version(rt),
-        Command::Unknown => names::say_unknown(rt, name),
     }
 }
 
-fn start(rt: &HostRuntime, name: &[u8], count: usize) -> i32 {
-    let c = names::named(name);
-    if asks_for_help(rt, count) {
-        return help::of(rt, c, name);
+// `vanc NAME --help`: the one argument behind a command's name.
+fn start(rt: &HostRuntime, name: &[u8], count: usize) -> Ended {
+    let asks_for_help = count == 3 && is(rt, 2, b"--help");
+    match Command::named(name) {
+        Some(command) if asks_for_help => help::of(rt, command),
+        Some(command) => run(rt, command, count),
+        None => Err(names::fail_unknown(rt, name)),
     }
-    run(rt, c, name, count)
 }
 
-// The status.
-pub fn vanc_command(rt: &HostRuntime) -> i32 {
-    if !files::hold_streams(rt) {
+pub fn vanc_command(rt: &HostRuntime) -> Ended {
+    if files::hold_streams(rt).is_err() {
         ending::say_unchanged(rt);
-        return FAILED;
+        return Err(Failed);
     }
     let count = arguments::count(rt);
     if count < 2 {
-        return help::say_overview(rt);
+        return Err(help::fail_overview(rt));
     }
-    let mut name = io::buffer();
-    let n = arguments::word(rt, 1, &mut name);
-    start(rt, &name[..n], count)
+    let name = arguments::word(rt, 1);
+    start(rt, name.as_bytes(), count)
 }
 
 fn main(rt: HostRuntime) -> ExitCode {
     match vanc_command(&rt) {
-        DONE => ExitCode::from(0),
-        REFUSED => ExitCode::from(1),
-        _ => ExitCode::from(2),
+        Ok(Status::Done) => ExitCode::from(0),
+        Ok(Status::Refused) => ExitCode::from(1),
+        Err(Failed) => ExitCode::from(2),
     }
 }

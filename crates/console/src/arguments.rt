@@ -1,78 +1,59 @@
 // Arguments: numbers, systems, file names. What is wrong with one is said by its name, and the caller does nothing more.
-ghost use Rattle.std.specs.Prelude.{◌≤◌};
-ghost use Rattle.io.specs.Counts.{IsPrefixLen};
-
 use file_status::PATH_MAX;
 use file_status::errors::EINVAL;
+use files::Failed;
 use std::env::FillError;
+use std::io;
 use std::rt::Env;
+use text::Line;
 
-// More than any number that is read from digits.
-pub const NOT_A_NUMBER: u64 = 18446744073709551615;
+// An argument, as long as a path can be.
+pub type Argument = Line<PATH_MAX>;
 
 // From here on one more digit could wrap.
 const LARGE: u64 = 100000000000000000;
 
-// What a digit stands for; 10 for what is no digit.
-fn digit(b: u8) -> u64
-    ensures { result ≤ 10 }
-{
-    if b < b'0' {
-        return 10;
+// A number and one more digit.
+fn with_digit(n: u64, digit: u8) -> Option<u64> {
+    if LARGE <= n || !digit.is_ascii_digit() {
+        return None;
     }
-    if b'9' < b {
-        return 10;
-    }
-    (b - b'0') as u64
+    Some(10 * n + u64::from(digit - b'0'))
 }
 
-// A number in decimal digits, below 10^18; `NOT_A_NUMBER` for any other text.
-fn number_of(digits: &[u8]) -> u64 {
-    if digits.len() == 0 {
-        return NOT_A_NUMBER;
+// A number in decimal digits, below 10^18; none for any other text.
+fn number_of(digits: &[u8]) -> Option<u64> {
+    if digits.is_empty() {
+        return None;
     }
-    let mut n = 0;
-    let mut i = 0;
-    while i < digits.len() {
-        let d = digit(digits[i]);
-        if 9 < d {
-            return NOT_A_NUMBER;
-        }
-        if LARGE <= n {
-            return NOT_A_NUMBER;
-        }
-        n = 10 * n + d;
-        i += 1;
-    }
-    n
+    digits.iter().try_fold(0, |n, &digit| with_digit(n, digit))
 }
 
 // A system by its number or by its name.
-fn system_of(word: &[u8]) -> u64 {
-    if text::is(word, b"1080/60i") {
-        return 1;
+fn system_of(word: &[u8]) -> Option<u64> {
+    match word {
+        b"1080/60i" => Some(1),
+        b"1080/50i" => Some(2),
+        b"720/60p" => Some(3),
+        _ => number_of(word),
     }
-    if text::is(word, b"1080/50i") {
-        return 2;
-    }
-    if text::is(word, b"720/60p") {
-        return 3;
-    }
-    number_of(word)
 }
 
 // How much of a word is quoted that is longer than a buffer.
 const QUOTED: usize = 64;
 
-// Argument i, at the start of a buffer: how long it is. One that is longer than the buffer is its start and two dots, which no command, number or
-// system is.
-pub fn word(rt: &impl Env, i: usize, buf: &mut [u8]) -> usize
-    ensures { IsPrefixLen result buf.new }
-{
-    match rt.arg(i, buf) {
-        Ok(n) => n,
-        Err(FillError::TooLong) => text::put_text(buf, QUOTED, b".."),
-        Err(FillError::NotPresent) => 0,
+// Argument i; empty where there is none. One that is too long is its start and two dots, which no command, number or system is.
+pub fn word(rt: &impl Env, i: usize) -> Argument {
+    let mut buf = [0u8; PATH_MAX];
+    match rt.arg(i, &mut buf) {
+        Ok(n) => Argument::of(&buf[..n]),
+        Err(FillError::TooLong) => {
+            let mut start = Argument::of(&buf);
+            start.truncate(QUOTED);
+            start.push_bytes(b"..");
+            start
+        }
+        Err(FillError::NotPresent) => Argument::new(),
     }
 }
 
@@ -87,68 +68,50 @@ pub fn count(rt: &impl Env) -> usize {
     usize::MAX
 }
 
-// The number that is argument i; `NOT_A_NUMBER` where it is none, which is then said by the name, which has a colon behind it.
-pub fn number(rt: &HostRuntime, i: usize, name: &[u8]) -> u64 {
-    let mut said = [0u8; PATH_MAX];
-    let k = word(rt, i, &mut said);
-    let n = number_of(&said[..k]);
-    if n == NOT_A_NUMBER {
-        files::say_quoted(rt, name, &said[..k], b" is no number");
+// The number that is argument i. Where it is none, that is said by the name, which has a colon behind it.
+pub fn number(rt: &HostRuntime, i: usize, name: &str) -> Result<u64, Failed> {
+    let said = word(rt, i);
+    match number_of(said.as_bytes()) {
+        Some(n) => Ok(n),
+        None => Err(files::fail_quoted(rt, name, said.as_bytes(), " is no number")),
     }
-    n
 }
 
-// The system that is argument i; `NOT_A_NUMBER` where it is none, which is then said.
-pub fn system(rt: &HostRuntime, i: usize) -> u64 {
-    let mut said = [0u8; PATH_MAX];
-    let k = word(rt, i, &mut said);
-    let n = system_of(&said[..k]);
-    if n == NOT_A_NUMBER {
-        files::say_quoted(
+// The system that is argument i. Where it is none, that is said.
+pub fn system(rt: &HostRuntime, i: usize) -> Result<u64, Failed> {
+    let said = word(rt, i);
+    match system_of(said.as_bytes()) {
+        Some(n) => Ok(n),
+        None => Err(files::fail_quoted(
             rt,
-            b"SYSTEM: ",
-            &said[..k],
-            b" is neither a number nor 1080/60i, 1080/50i or 720/60p",
-        );
+            "SYSTEM: ",
+            said.as_bytes(),
+            " is neither a number nor 1080/60i, 1080/50i or 720/60p",
+        )),
     }
-    n
 }
 
-// The FI, 0 or 1, that is argument i; `NOT_A_NUMBER` where it is neither, which is then said.
-pub fn fi(rt: &HostRuntime, i: usize) -> u64 {
-    let mut said = [0u8; PATH_MAX];
-    let k = word(rt, i, &mut said);
-    let n = number_of(&said[..k]);
-    if n < 2 {
-        return n;
+// The FI, 0 or 1, that is argument i. Where it is neither, that is said.
+pub fn fi(rt: &HostRuntime, i: usize) -> Result<bool, Failed> {
+    let said = word(rt, i);
+    match number_of(said.as_bytes()) {
+        Some(0) => Ok(false),
+        Some(1) => Ok(true),
+        _ => Err(files::fail_quoted(rt, "FI: ", said.as_bytes(), " is neither 0 nor 1")),
     }
-    files::say_quoted(rt, b"FI: ", &said[..k], b" is neither 0 nor 1");
-    NOT_A_NUMBER
 }
 
-// The file name that is argument i, at the start of a buffer: how long it is; 0 where there is none, which is then said.
-pub fn path(rt: &HostRuntime, i: usize, name: &[u8], path: &mut [u8]) -> usize
-    ensures { IsPrefixLen result path.new }
-{
-    match rt.arg(i, path) {
-        Ok(n) => {
-            if n == 0 {
-                files::say(rt, name, b": an empty name");
-                return 0;
-            }
-            if PATH_MAX <= n {
-                files::say(rt, name, b": File name too long");
-                return 0;
-            }
-            n
-        }
-        Err(FillError::TooLong) => {
-            files::say(rt, name, b": File name too long");
-            0
-        }
+// The file name that is argument i. Where there is none, that is said.
+pub fn path(rt: &HostRuntime, i: usize, name: &str) -> Result<Argument, Failed> {
+    let name = name.as_bytes();
+    let mut buf = [0u8; PATH_MAX];
+    match rt.arg(i, &mut buf) {
+        Ok(0) => Err(files::fail(rt, name, ": an empty name")),
+        Ok(n) if n < PATH_MAX => Ok(Argument::of(&buf[..n])),
+        Ok(_) | Err(FillError::TooLong) => Err(files::fail(rt, name, ": File name too long")),
         Err(FillError::NotPresent) => {
-            files::fail(rt, name, b"", EINVAL);
-            0
+            let error = io::Error::from_raw_os_error(EINVAL);
+            Err(files::fail_by(rt, name, "", error))
         }
     }
 }

@@ -1,134 +1,119 @@
 // How a command ends: its status, the line of the result, and what is said with it.
-use file_status::errors::number_of;
-use sheet_file::NUMBERS;
+use files::{Failed, Input};
+use refusals::{Fault, FoundFault, LineFault};
+use rules::Refusal;
+use std::fmt::{Display, Write};
 use std::io;
+use text::Line;
 
-pub const DONE: i32 = 0;
+// How a command ends that was called rightly, and whose files and streams could be read and written.
+#[derive(Clone, Copy)]
+pub enum Status {
+    Done,
 
-// By the rules.
-pub const REFUSED: i32 = 1;
-
-// Called wrongly, or a file or a stream that could not be read or written.
-pub const FAILED: i32 = 2;
-
-pub fn say_unchanged(rt: &HostRuntime) {
-    files::say(rt, b"no file was changed", b"");
+    // By the rules.
+    Refused,
 }
 
-// Ends with a status, where the result is printed. Where it could not be printed that is said, and whether a file was written before: `written` is
-// its name, or empty.
-pub fn ended(rt: &HostRuntime, printed: io::Result<()>, status: i32, written: &[u8]) -> i32 {
-    match printed {
-        Ok(()) => status,
+pub type Ended = Result<Status, Failed>;
+
+pub fn say_unchanged(rt: &HostRuntime) {
+    files::say(rt, b"no file was changed", "");
+}
+
+// Prints the result, and ends with a status. Where it could not be printed that is said, and whether a file was written before, by its name.
+pub fn printed(rt: &HostRuntime, line: &[u8], status: Status, written: Option<&[u8]>) -> Ended {
+    match files::print(rt, line) {
+        Ok(()) => Ok(status),
         Err(e) => {
-            files::fail(rt, b"standard output", b"", number_of(e));
-            if written.len() == 0 {
-                say_unchanged(rt);
-            } else {
-                files::say(rt, written, b" was written");
+            let failed = files::fail_by(rt, b"standard output", "", e);
+            match written {
+                Some(name) => files::say(rt, name, " was written"),
+                None => say_unchanged(rt),
             }
-            FAILED
+            Err(failed)
         }
     }
 }
 
-// Prints the result, and ends.
-pub fn printed(rt: &HostRuntime, res: &[u8], status: i32, written: &[u8]) -> i32 {
-    ended(rt, files::print(rt, res), status, written)
+// Ends with a line. The longest has some 90 bytes, whatever the numbers are.
+fn ended(
+    rt: &HostRuntime,
+    text: impl Display + Drop,
+    status: Status,
+    written: Option<&[u8]>,
+) -> Ended {
+    let mut line = Line::<128>::new();
+    let _ = write!(line, "{text}\n");
+    printed(rt, line.as_bytes(), status, written)
 }
 
-// What is at fault, where, and what is wrong, on standard error. The longest, of a packet and its word, has some 150 bytes, whatever the numbers are.
-fn say_refusal(rt: &HostRuntime, what: &[u8], number: u64, place: u64, word: u64, sheet: &[u16]) {
-    let mut why = [0u8; 256];
-    let a = text::put_text(&mut why, 0, b": ");
-    let n = refusals::put_fault(&mut why, a, number, place, word, sheet);
-    files::say(rt, what, &why[..n]);
+// Ends with the line that says what was done, when a file was written.
+pub fn done(rt: &HostRuntime, text: impl Display + Drop, written: &[u8]) -> Ended {
+    ended(rt, text, Status::Done, Some(written))
 }
 
-fn printed_refusal(rt: &HostRuntime, number: u64, place: u64) -> i32 {
-    let mut line = [0u8; 64];
-    let n = text::put_refusal(&mut line, number, place);
-    printed(rt, &line[..n], REFUSED, b"")
+// "A refusal prints one line, as `refused 10 at 0`." So it is printed by what reads areas and elements, whose refusals name no word.
+fn refused_at(rt: &HostRuntime, number: u64, place: u64) -> Ended {
+    let line = format_args!("refused {number} at {place}");
+    ended(rt, line, Status::Refused, None)
 }
 
-fn printed_refusal_with_word(rt: &HostRuntime, number: u64, place: u64, word: u64) -> i32 {
-    let mut line = [0u8; 96];
-    let n = text::put_refusal_with_word(&mut line, number, place, word);
-    printed(rt, &line[..n], REFUSED, b"")
+// "Laying and the lister pass the word on after the place" (document 02, A2): `refused 8 at 31 6`.
+fn refused_at_word(rt: &HostRuntime, fault: &Fault) -> Ended {
+    let (number, place, word) = (fault.number, fault.place, fault.word);
+    let line = format_args!("refused {number} at {place} {word}");
+    ended(rt, line, Status::Refused, None)
+}
+
+// What is at fault, where, and what is wrong, on standard error.
+fn say_fault(rt: &HostRuntime, what: &[u8], fault: impl Display + Drop) {
+    files::say(rt, what, format_args!(": {fault}"));
 }
 
 // A refusal of what is no sheet, by a call that gives back no word.
-pub fn refused(rt: &HostRuntime, what: &[u8], number: u64, place: u64) -> i32 {
-    let none = [0u16; 0];
-    say_refusal(rt, what, number, place, 0, &none);
-    printed_refusal(rt, number, place)
+pub fn refused(rt: &HostRuntime, what: &[u8], number: u64, place: u64) -> Ended {
+    let fault = Fault {
+        number,
+        place,
+        word: 0,
+        sheet: &[],
+    };
+    say_fault(rt, what, fault);
+    refused_at(rt, number, place)
 }
 
 // 20 of what is no sheet: the line at which the packet stands was found in it.
-pub fn line_refused(rt: &HostRuntime, what: &[u8], place: u64, system: u64, line: u64) -> i32 {
-    let mut why = [0u8; 128];
-    let a = text::put_text(&mut why, 0, b": ");
-    let n = refusals::put_line_fault(&mut why, a, place, system, line);
-    files::say(rt, what, &why[..n]);
-    printed_refusal(rt, 20, place)
+pub fn line_refused(rt: &HostRuntime, what: &[u8], fault: LineFault) -> Ended {
+    say_fault(rt, what, fault);
+    refused_at(rt, Refusal::PictureLine.number(), fault.place)
 }
 
-// A refusal by a call that gives back a word too, and was given the sheet whose numbers stand in s.
-pub fn refused_with_word(
-    rt: &HostRuntime,
-    what: &[u8],
-    number: u64,
-    place: u64,
-    word: u64,
-    s: &[u16; NUMBERS],
-) -> i32 {
-    let numbers = &s[..];
-    say_refusal(rt, what, number, place, word, numbers);
-    printed_refusal_with_word(rt, number, place, word)
+// A refusal by a call that gives back a word too, and was given the fault's sheet.
+pub fn refused_with_word(rt: &HostRuntime, what: &[u8], fault: Fault) -> Ended {
+    say_fault(rt, what, fault);
+    refused_at_word(rt, &fault)
 }
 
 pub fn say_length(rt: &HostRuntime, name: &[u8]) {
-    files::say(
-        rt,
-        name,
-        b": a sheet file has an even number of bytes, 65536 at most",
-    );
+    let why = ": a sheet file has an even number of bytes, 65536 at most";
+    files::say(rt, name, why);
 }
 
-// A refusal of a sheet file, whose numbers stand in s; where the file's length is at fault, that is said too.
-pub fn sheet_refused(
-    rt: &HostRuntime,
-    name: &[u8],
-    file: &[u8],
-    number: u64,
-    place: u64,
-    word: u64,
-    s: &[u16; NUMBERS],
-) -> i32 {
-    let status = refused_with_word(rt, name, number, place, word, s);
-    if number == 2 && !sheet_file::is_whole(file) {
-        say_length(rt, name);
+// A refusal of a sheet file; where the file's length is at fault, that is said too.
+pub fn sheet_refused(rt: &HostRuntime, sheet: Input, fault: Fault) -> Ended {
+    let ended = refused_with_word(rt, sheet.name, fault);
+    if fault.number == Refusal::Shape.number() && !sheet_file::is_whole(sheet.bytes) {
+        say_length(rt, sheet.name);
     }
-    status
+    ended
 }
 
 // The same of a sheet file that was taken as found (document 02, A13).
-pub fn found_refused(
-    rt: &HostRuntime,
-    name: &[u8],
-    file: &[u8],
-    number: u64,
-    place: u64,
-    word: u64,
-    s: &[u16; NUMBERS],
-) -> i32 {
-    if number != 8 {
-        return sheet_refused(rt, name, file, number, place, word, s);
+pub fn found_refused(rt: &HostRuntime, sheet: Input, fault: Fault) -> Ended {
+    if fault.number != Refusal::Word.number() {
+        return sheet_refused(rt, sheet, fault);
     }
-    let numbers = &s[..];
-    let mut why = [0u8; 256];
-    let a = text::put_text(&mut why, 0, b": ");
-    let n = refusals::put_found_fault(&mut why, a, place, word, numbers);
-    files::say(rt, name, &why[..n]);
-    printed_refusal_with_word(rt, number, place, word)
+    say_fault(rt, sheet.name, FoundFault(fault));
+    refused_at_word(rt, &fault)
 }

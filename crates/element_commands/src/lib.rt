@@ -2,4 +2,5 @@
 #![tactic(auto)]
 
 pub mod read;
+pub mod samples;
 pub mod write;

@@ -2,7 +2,7 @@
 // back; so what has no room is not written, and that is an error of the write. Linux says in text what is needed for it.
 ghost use Rattle.std.specs.Prelude.{◌≤◌};
 
-use super::{open, read_all};
+use super::{open, read_some};
 use file_status::errors::EFBIG;
 use std::io::Print;
 use std::{fs, io, str};
@@ -24,8 +24,7 @@ fn number_in(rt: &HostRuntime, path: &[u8], label: &str, base: u32) -> Option<u6
 {
     let mut file = open(rt, path).ok()?;
     let mut buf = [0u8; 512];
-    let r = read_all(&mut file, &mut buf);
-    let text = str::from_utf8(&buf[..r.bytes]).ok()?;
+    let text = str::from_utf8(read_some(&mut file, &mut buf)).ok()?;
     number_behind(text, label, base)
 }
 

@@ -1,49 +1,16 @@
 // The system's words for an error.
-ghost use Rattle.io.specs.Counts.{IsPrefixLen};
-
+use file_status::errors::number_of;
 use std::fmt::Write;
-use std::{fmt, io};
+use std::io;
+use text::Line;
 
-// Text that is printed, as much as there is room for.
-#[derive(Drop)]
-struct Printed {
-    bytes: [u8; 128],
-    n: usize,
-}
-
-impl fmt::Write for Printed {
-    fn write_str(&mut self, s: &str) -> fmt::Result {
-        let n = text::put_text(&mut self.bytes, self.n, s.as_bytes());
-        self.n = n;
-        Ok(())
+// std prints the number behind the words, as `No such file or directory (os error 2)`, and that is left out.
+pub fn of(error: io::Error) -> Line<128> {
+    let mut said = Line::new();
+    let _ = write!(said, "{}", io::Error::from_raw_os_error(number_of(error)));
+    let number = said.as_bytes().iter().rposition(|&b| b == b'(');
+    if let Some(n) = number {
+        said.truncate(n.saturating_sub(1));
     }
-}
-
-// std prints the number behind the words, as `No such file or directory (os error 2)`: how much of that is words.
-fn words_of(text: &[u8]) -> usize
-    ensures { IsPrefixLen result text.now }
-{
-    let mut n = text.len();
-    while 1 < n {
-        n -= 1;
-        if text[n] == b'(' {
-            return n - 1;
-        }
-    }
-    text.len()
-}
-
-// The words for the error with a number.
-pub fn put(out: &mut [u8], at: usize, error: i32) -> usize
-    ensures { IsPrefixLen result out.new }
-{
-    let mut said = Printed {
-        bytes: [0; 128],
-        n: 0,
-    };
-    let e = io::Error::from_raw_os_error(error);
-    let _ = write!(&mut said, "{e}");
-    let n = said.n.min(128);
-    let k = words_of(&said.bytes[..n]);
-    text::put_text(out, at, &said.bytes[..k])
+    said
 }

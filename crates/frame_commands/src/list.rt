@@ -1,50 +1,49 @@
 // vanc list [SHEET]: what document 01's lister prints, of a sheet file or of standard input.
-use console::ending::{DONE, FAILED};
+use console::ending::{Ended, Status};
 use console::{arguments, ending};
+use files::{Failed, Input};
+use listing::Text;
+use refusals::Fault;
 use sheet_file::NUMBERS;
 
-fn list(rt: &HostRuntime, name: &[u8], file: &[u8]) -> i32 {
+fn list(rt: &HostRuntime, sheet: Input) -> Ended {
     let mut s = [0u16; NUMBERS];
-    let mut out = [0u8; listing::ROOM];
-    let l = listing::list(file, &mut s, &mut out);
-    let t = l.tested;
+    let mut text = Text::new();
+    let t = listing::list(sheet.bytes, &mut s, &mut text);
     if t.number != 0 {
-        return ending::sheet_refused(rt, name, file, t.number, t.place, t.word, &s);
+        let fault = Fault {
+            number: t.number,
+            place: t.place,
+            word: t.word,
+            sheet: &s[..],
+        };
+        return ending::sheet_refused(rt, sheet, fault);
     }
-    let n = l.bytes;
-    ending::printed(rt, &out[..n], DONE, b"")
+    ending::printed(rt, text.as_bytes(), Status::Done, None)
 }
 
 // One byte more than the longest sheet is read, so that a longer file is seen to be longer.
-fn list_file(rt: &HostRuntime, name: &[u8]) -> i32 {
+fn list_file(rt: &HostRuntime, name: &[u8]) -> Ended {
     let mut file = [0u8; sheet_file::LONGEST + 1];
-    let f = files::read_file(rt, name, name, b"", files::no_file(), &mut file);
-    if !f.done {
-        return FAILED;
-    }
-    let n = f.bytes;
-    list(rt, name, &file[..n])
+    list(rt, files::read_file(rt, name, None, &mut file)?)
 }
 
-fn list_input(rt: &HostRuntime) -> i32 {
-    let mut file = [0u8; sheet_file::LONGEST + 1];
-    let f = files::read_input(rt, &mut file);
-    if !f.done {
-        files::fail(rt, b"standard input", b"", f.error);
-        return FAILED;
+fn read_input<'a>(rt: &HostRuntime, buf: &'a mut [u8]) -> Result<Input<'a>, Failed> {
+    let name = b"standard input";
+    match files::read_input(rt, buf) {
+        Ok(bytes) => Ok(Input { name, bytes }),
+        Err(e) => Err(files::fail_by(rt, name, "", e)),
     }
-    let n = f.bytes;
-    list(rt, b"standard input", &file[..n])
 }
 
-pub fn run(rt: &HostRuntime, count: usize) -> i32 {
+fn list_input(rt: &HostRuntime) -> Ended {
+    let mut file = [0u8; sheet_file::LONGEST + 1];
+    list(rt, read_input(rt, &mut file)?)
+}
+
+pub fn run(rt: &HostRuntime, count: usize) -> Ended {
     if count == 2 {
         return list_input(rt);
     }
-    let mut name = io::buffer();
-    let n = arguments::path(rt, 2, b"SHEET", &mut name);
-    if n == 0 {
-        return FAILED;
-    }
-    list_file(rt, &name[..n])
+    list_file(rt, arguments::path(rt, 2, "SHEET")?.as_bytes())
 }

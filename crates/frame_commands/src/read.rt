@@ -1,83 +1,56 @@
 // vanc read SYSTEM AREA SHEET: reads the packets of the area that is in a file to a sheet file. The sheet file is made or replaced whole, and only
 // when the area is read.
-ghost use Rattle.io.specs.Counts.{IsPrefixLen};
-
-use console::arguments::NOT_A_NUMBER;
-use console::ending::{DONE, FAILED};
+use console::ending::Ended;
 use console::{arguments, ending};
 use file_codec::lines;
-use file_status::Known;
+use files::Input;
+use files::output::Target;
 use frame::{Hd1080x50i, LIMIT};
-use rules::ReadBack;
+use refusals::{LineFault, numbered};
+use rules::{ReadBack, Refusal};
 
 // The numbers of the longest sheet that an area has: the most packets, and the words of the longest string.
 const NUMBERS: usize = 4 + 2 * LIMIT + Hd1080x50i::STRING;
 
-fn put_read(out: &mut [u8], r: ReadBack) -> usize
-    ensures { IsPrefixLen result out.new }
-{
-    let a = text::put_labelled(out, 0, b"read packing ", r.packing);
-    let b = text::put_labelled(out, a, b" packets ", r.packets);
-    let c = text::put_labelled(out, b, b" numbers ", r.numbers);
-    text::put(out, c, b'\n')
+fn refuse(rt: &HostRuntime, r: ReadBack, system: u64, area: Input) -> Ended {
+    match numbered(r.number) {
+        Some(Refusal::System) => ending::refused(rt, b"SYSTEM", r.number, r.place),
+        Some(Refusal::PictureLine) => {
+            let fault = LineFault {
+                place: r.place,
+                system,
+                line: lines::in_area(system, area.bytes, r.place),
+            };
+            ending::line_refused(rt, area.name, fault)
+        }
+        _ => ending::refused(rt, area.name, r.number, r.place),
+    }
 }
 
-fn refuse(rt: &HostRuntime, r: ReadBack, system: u64, area: &[u8], bytes: &[u8]) -> i32 {
-    if r.number == 3 {
-        return ending::refused(rt, b"SYSTEM", r.number, r.place);
-    }
-    if r.number == 20 {
-        let line = lines::in_area(system, bytes, r.place);
-        return ending::line_refused(rt, area, r.place, system, line);
-    }
-    ending::refused(rt, area, r.number, r.place)
-}
-
-fn read_and_replace(
-    rt: &HostRuntime,
-    system: u64,
-    area: &[u8],
-    bytes: &[u8],
-    sheet: &[u8],
-    path: &[u8],
-    is: Known,
-) -> i32 {
+fn read_and_replace(rt: &HostRuntime, system: u64, area: Input, sheet: &Target) -> Ended {
     let mut s = [0u16; NUMBERS];
     let mut file = [0u8; 2 * NUMBERS];
-    let r = file_codec::read_area(system, bytes, &mut s, &mut file);
+    let r = file_codec::read_area(system, area.bytes, &mut s, &mut file);
     if r.number != 0 {
-        return refuse(rt, r, system, area, bytes);
+        return refuse(rt, r, system, area);
     }
-    if !files::replace_by_first(rt, sheet, path, is, &file, 2 * r.numbers) {
-        return FAILED;
-    }
-    let mut line = [0u8; 128];
-    let n = put_read(&mut line, r);
-    ending::printed(rt, &line[..n], DONE, sheet)
+    sheet.replace_by_first(rt, &file, 2 * r.numbers)?;
+    let (packing, packets, numbers) = (r.packing, r.packets, r.numbers);
+    let text = format_args!("read packing {packing} packets {packets} numbers {numbers}");
+    ending::done(rt, text, sheet.name())
 }
 
 // One byte more than the longest area is read, so that a longer file is seen to be longer.
-fn read_files(rt: &HostRuntime, system: u64, area: &[u8], sheet: &[u8]) -> i32 {
-    let mut path = io::buffer();
+fn read_files(rt: &HostRuntime, system: u64, area: &[u8], sheet: &[u8]) -> Ended {
+    let target = Target::find(rt, sheet)?;
     let mut bytes = [0u8; Hd1080x50i::AREA + 1];
-    let j = files::begin(rt, area, sheet, &mut path, &mut bytes);
-    if !j.done {
-        return FAILED;
-    }
-    let p = j.path;
-    let n = j.bytes;
-    let is = j.is;
-    read_and_replace(rt, system, area, &bytes[..n], sheet, &path[..p], is)
+    let area = files::read_file(rt, area, Some(&target), &mut bytes)?;
+    read_and_replace(rt, system, area, &target)
 }
 
-pub fn run(rt: &HostRuntime) -> i32 {
+pub fn run(rt: &HostRuntime) -> Ended {
     let system = arguments::system(rt, 2);
-    let mut area = io::buffer();
-    let n = arguments::path(rt, 3, b"AREA", &mut area);
-    let mut sheet = io::buffer();
-    let m = arguments::path(rt, 4, b"SHEET", &mut sheet);
-    if system == NOT_A_NUMBER || n == 0 || m == 0 {
-        return FAILED;
-    }
-    read_files(rt, system, &area[..n], &sheet[..m])
+    let area = arguments::path(rt, 3, "AREA");
+    let sheet = arguments::path(rt, 4, "SHEET");
+    read_files(rt, system?, area?.as_bytes(), sheet?.as_bytes())
 }

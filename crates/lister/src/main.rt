@@ -3,31 +3,29 @@
 #![tactic(auto)]
 
 use console::arguments;
-use file_status::errors;
+use std::io;
 use std::io::Print;
+use text::Line;
 
 // What could not be read or written, and the system's words.
-fn fail(rt: &HostRuntime, what: &[u8], error: i32) {
-    let mut line = [0u8; 512];
-    let a = text::put_text(&mut line, 0, what);
-    let b = text::put_text(&mut line, a, b": ");
-    let c = files::words::put(&mut line, b, error);
-    let n = text::put(&mut line, c, b'\n');
-    let _ = Print::write_all(&rt.stderr(), &line[..n]);
+fn fail(rt: &HostRuntime, what: &[u8], error: io::Error) {
+    let mut line = Line::<512>::of(what);
+    line.push_bytes(b": ");
+    line.push_bytes(files::words::of(error).as_bytes());
+    line.push(b'\n');
+    let _ = Print::write_all(&rt.stderr(), line.as_bytes());
 }
 
 fn list_input(rt: &HostRuntime) {
-    let mut file = [0u8; sheet_file::LONGEST + 1];
-    let r = files::read_input(rt, &mut file);
-    if !r.done {
-        fail(rt, b"standard input", r.error);
-        return;
-    }
-    let n = r.bytes;
-    let mut out = [0u8; listing::ROOM];
-    let k = listing::listing(&file[..n], &mut out);
-    if let Err(e) = files::print(rt, &out[..k]) {
-        fail(rt, b"standard output", errors::number_of(e));
+    let mut buf = [0u8; sheet_file::LONGEST + 1];
+    match files::read_input(rt, &mut buf) {
+        Ok(file) => {
+            let text = listing::listing(file);
+            if let Err(e) = files::print(rt, text.as_bytes()) {
+                fail(rt, b"standard output", e);
+            }
+        }
+        Err(e) => fail(rt, b"standard input", e),
     }
 }
 

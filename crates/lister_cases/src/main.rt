@@ -15,21 +15,15 @@ fn size(head: &[u8; 4]) -> usize {
     n.min(ROOM)
 }
 
-fn show(rt: &impl Print, file: &[u8]) -> io::Result<()> {
-    let mut out = [0u8; listing::ROOM];
-    let k = listing::listing(file, &mut out);
-    rt.write_all(&out[..k])
-}
-
 // Lists the next case; false where there is none.
 fn list_next(rt: &impl Print, cases: &mut File) -> io::Result<bool> {
     let mut head = [0u8; 4];
-    if files::read_next(cases, &mut head, 4) < 4 {
+    if files::read_next(cases, &mut head, 4).len() < 4 {
         return Ok(false);
     }
-    let mut file = [0u8; ROOM];
-    let n = files::read_next(cases, &mut file, size(&head));
-    show(rt, &file[..n])?;
+    let mut buf = [0u8; ROOM];
+    let file = files::read_next(cases, &mut buf, size(&head));
+    rt.write_all(listing::listing(file).as_bytes())?;
     Ok(true)
 }
 
@@ -37,7 +31,7 @@ fn main(rt: HostRuntime) -> io::Result<()> {
     let mut cases = File::open(&rt, "cases")?;
     for _ in 0..4096 {
         if !list_next(&rt, &mut cases)? {
-            return Ok(());
+            break;
         }
     }
     Ok(())

@@ -1,7 +1,7 @@
 // The commands by name, and how many arguments each takes. A command that is added stands here, in `help`, and in the crate `command`.
-use console::ending::FAILED;
+use files::Failed;
 
-#[derive(Clone, Copy)]
+#[derive(Clone, Copy, PartialEq, Eq)]
 pub enum Command {
     List,
     Lay,
@@ -11,70 +11,53 @@ pub enum Command {
     Help,
     HelpOption,
     Version,
-    Unknown,
 }
 
-pub fn named(name: &[u8]) -> Command {
-    if text::is(name, b"list") {
-        return Command::List;
+impl Command {
+    pub fn named(name: &[u8]) -> Option<Command> {
+        match name {
+            b"list" => Some(Command::List),
+            b"lay" => Some(Command::Lay),
+            b"read" => Some(Command::Read),
+            b"mxf-write" => Some(Command::MxfWrite),
+            b"mxf-read" => Some(Command::MxfRead),
+            b"help" => Some(Command::Help),
+            b"--help" => Some(Command::HelpOption),
+            b"--version" => Some(Command::Version),
+            _ => None,
+        }
     }
-    if text::is(name, b"lay") {
-        return Command::Lay;
+
+    // Whether it takes so many words, `vanc` and its own name among them.
+    pub fn takes(self, count: usize) -> bool {
+        match self {
+            Command::List | Command::Help => matches!(count, 2 | 3),
+            Command::Lay | Command::Read => count == 5,
+            Command::MxfWrite => matches!(count, 5 | 6),
+            Command::MxfRead => matches!(count, 6 | 7),
+            Command::HelpOption | Command::Version => count == 2,
+        }
     }
-    if text::is(name, b"read") {
-        return Command::Read;
+
+    fn usage(self) -> &'static str {
+        match self {
+            Command::List => "list [SHEET]",
+            Command::Lay => "lay PACKING SHEET AREA",
+            Command::Read => "read SYSTEM AREA SHEET",
+            Command::MxfWrite => "mxf-write FI SHEET ELEMENT [--ten]",
+            Command::MxfRead => "mxf-read SYSTEM FI ELEMENT SHEET [--ten]",
+            Command::Help => "help [NAME]",
+            Command::HelpOption => "--help",
+            Command::Version => "--version",
+        }
     }
-    if text::is(name, b"mxf-write") {
-        return Command::MxfWrite;
+
+    // How it is called, for one who called it otherwise.
+    pub fn fail_usage(self, rt: &HostRuntime) -> Failed {
+        files::fail(rt, b"usage: vanc ", self.usage())
     }
-    if text::is(name, b"mxf-read") {
-        return Command::MxfRead;
-    }
-    if text::is(name, b"help") {
-        return Command::Help;
-    }
-    if text::is(name, b"--help") {
-        return Command::HelpOption;
-    }
-    if text::is(name, b"--version") {
-        return Command::Version;
-    }
-    Command::Unknown
 }
 
-// Whether a command takes so many words, `vanc` and its own name among them.
-pub fn takes(c: Command, count: usize) -> bool {
-    match c {
-        Command::List => count == 2 || count == 3,
-        Command::Lay => count == 5,
-        Command::Read => count == 5,
-        Command::MxfWrite => count == 5 || count == 6,
-        Command::MxfRead => count == 6 || count == 7,
-        Command::Help => count == 2 || count == 3,
-        Command::HelpOption => count == 2,
-        Command::Version => count == 2,
-        Command::Unknown => true,
-    }
-}
-
-// How a command is called, for one who called it otherwise.
-pub fn say_usage(rt: &HostRuntime, c: Command) -> i32 {
-    let how = b"usage: vanc ";
-    match c {
-        Command::List => files::say(rt, how, b"list [SHEET]"),
-        Command::Lay => files::say(rt, how, b"lay PACKING SHEET AREA"),
-        Command::Read => files::say(rt, how, b"read SYSTEM AREA SHEET"),
-        Command::MxfWrite => files::say(rt, how, b"mxf-write FI SHEET ELEMENT [--ten]"),
-        Command::MxfRead => files::say(rt, how, b"mxf-read SYSTEM FI ELEMENT SHEET [--ten]"),
-        Command::Help => files::say(rt, how, b"help [NAME]"),
-        Command::HelpOption => files::say(rt, how, b"--help"),
-        Command::Version => files::say(rt, how, b"--version"),
-        Command::Unknown => files::say(rt, how, b"NAME .."),
-    }
-    FAILED
-}
-
-pub fn say_unknown(rt: &HostRuntime, name: &[u8]) -> i32 {
-    files::say_quoted(rt, b"", name, b" is no command; vanc --help lists them");
-    FAILED
+pub fn fail_unknown(rt: &HostRuntime, name: &[u8]) -> Failed {
+    files::fail_quoted(rt, "", name, " is no command; vanc --help lists them")
 }

@@ -26,15 +26,8 @@ fn four(b: &[u8], at: usize) -> usize
 }
 
 fn decode(b: &[u8], s: &mut [u16]) {
-    let mut i = 0;
-    let mut at = 0;
-    while i < s.len() {
-        if b.len() < at + 2 {
-            return;
-        }
-        s[i] = two(b, at) as u16;
-        i += 1;
-        at += 2;
+    for (n, pair) in s.iter_mut().zip(b.chunks_exact(2)) {
+        *n = u16::from_be_bytes([pair[0], pair[1]]);
     }
 }
 
@@ -46,35 +39,23 @@ fn next(x: u64) -> u64
 
 fn noise(area: &mut [u8], seed: u64) {
     let mut x = seed;
-    let mut i = 0;
-    while i < area.len() {
+    for b in area.iter_mut() {
         x = next(x);
-        area[i] = (x / 65536 % 256) as u8;
-        i += 1;
+        *b = (x / 65536 % 256) as u8;
     }
 }
 
 fn noise_numbers(buffer: &mut [u16]) {
     let mut x = 256;
-    let mut i = 0;
-    while i < buffer.len() {
+    for n in buffer.iter_mut() {
         x = next(x);
-        buffer[i] = (x / 65536 % 256) as u16;
-        i += 1;
-    }
-}
-
-fn one_byte(area: &mut [u8], b: u8) {
-    let mut i = 0;
-    while i < area.len() {
-        area[i] = b;
-        i += 1;
+        *n = (x / 65536 % 256) as u16;
     }
 }
 
 fn prepare(area: &mut [u8], fill: usize) {
     if fill < 256 {
-        one_byte(area, fill as u8);
+        area.fill(fill as u8);
         return;
     }
     noise(area, fill as u64);
@@ -82,63 +63,49 @@ fn prepare(area: &mut [u8], fill: usize) {
 
 fn flip(area: &mut [u8], at: usize, x: u8) {
     if at < area.len() {
-        area[at] = area[at] ^ x;
+        area[at] ^= x;
     }
 }
 
 fn damage(area: &mut [u8], marks: &[u8]) {
-    let mut at = 0;
-    while at + 3 <= marks.len() {
-        flip(area, two(marks, at), marks[at + 2]);
-        at += 3;
+    for mark in marks.chunks_exact(3) {
+        flip(area, two(mark, 0), mark[2]);
     }
 }
 
 fn mix(h: u64, x: u16) -> u64
     ensures { result < 4294967296 }
 {
-    (h % 4294967296 * 31 + x as u64) % 4294967296
-}
-
-fn sixteen(x: u8) -> u16 {
-    x as u16
+    (h % 4294967296 * 31 + u64::from(x)) % 4294967296
 }
 
 fn mixed(s: &[u8]) -> u64 {
-    let mut h = 0;
-    let mut i = 0;
-    while i < s.len() {
-        h = mix(h, sixteen(s[i]));
-        i += 1;
-    }
-    h
+    s.iter().fold(0, |h, &x| mix(h, u16::from(x)))
 }
 
 fn mixed_numbers(s: &[u16]) -> u64 {
-    let mut h = 0;
-    let mut i = 0;
-    while i < s.len() {
-        h = mix(h, s[i]);
-        i += 1;
-    }
-    h
+    s.iter().fold(0, |h, &x| mix(h, x))
 }
 
 fn show_laid(rt: &impl Print, r: Laid, h: u64) -> io::Result<()> {
-    let number = r.number;
-    let place = r.place;
-    let word = r.word;
-    let packs = r.packs;
-    let bytes = r.bytes;
+    let Laid {
+        number,
+        place,
+        word,
+        packs,
+        bytes,
+    } = r;
     print!(rt; "laid {number} {place} {word} {packs} {bytes} {h}")
 }
 
 fn show_read(rt: &impl Print, r: ReadBack, h: u64) -> io::Result<()> {
-    let number = r.number;
-    let place = r.place;
-    let packing = r.packing;
-    let packets = r.packets;
-    let numbers = r.numbers;
+    let ReadBack {
+        number,
+        place,
+        packing,
+        packets,
+        numbers,
+    } = r;
     println!(rt; " read {number} {place} {packing} {packets} {numbers} {h}")
 }
 
@@ -213,9 +180,7 @@ fn in_parts(
     )
 }
 
-fn case_of(head: &[u8]) -> Case
-    requires { 24 ≤ length head.now }
-{
+fn case_of(head: &[u8; 24]) -> Case {
     Case {
         packing: two(head, 20) as u64,
         system: two(head, 22) as u64,
@@ -223,9 +188,7 @@ fn case_of(head: &[u8]) -> Case
     }
 }
 
-fn sizes_of(head: &[u8]) -> Sizes
-    requires { 24 ≤ length head.now }
-{
+fn sizes_of(head: &[u8; 24]) -> Sizes {
     Sizes {
         sheet: four(head, 0),
         area: four(head, 4),
@@ -234,16 +197,11 @@ fn sizes_of(head: &[u8]) -> Sizes
 }
 
 // The sheet's and the damages' bytes.
-fn body_size(head: &[u8]) -> usize
-    requires { 24 ≤ length head.now }
-{
+fn body_size(head: &[u8; 24]) -> usize {
     2 * four(head, 0) + 3 * four(head, 16)
 }
 
-fn with_body(rt: &impl Print, head: &[u8], body: &[u8]) -> io::Result<()> {
-    if head.len() < 24 {
-        return Ok(());
-    }
+fn with_body(rt: &impl Print, head: &[u8; 24], body: &[u8]) -> io::Result<()> {
     let mut sheet = [0u16; 16384];
     let mut area = [0u8; 12000];
     let mut buffer = [0u16; 12000];
@@ -259,37 +217,23 @@ fn with_body(rt: &impl Print, head: &[u8], body: &[u8]) -> io::Result<()> {
 }
 
 // Does the next case; false where there is none.
-fn next_case(
-    rt: &impl Print,
-    cases: &mut File,
-    head: &mut [u8],
-    body: &mut [u8],
-) -> io::Result<bool> {
-    if files::read_next(cases, head, 24) < 24 {
-        return Ok(false);
-    }
-    if head.len() < 24 {
-        return Ok(false);
-    }
-    let n = files::read_next(cases, body, body_size(head));
-    with_body(rt, head, &body[..n])?;
-    Ok(true)
-}
-
-fn one_case(rt: &impl Print, cases: &mut File) -> io::Result<bool> {
+fn next_case(rt: &impl Print, cases: &mut File) -> io::Result<bool> {
     let mut head = [0u8; 24];
+    if files::read_next(cases, &mut head, 24).len() < 24 {
+        return Ok(false);
+    }
     let mut body = [0u8; 65536];
-    next_case(rt, cases, &mut head, &mut body)
+    let body = files::read_next(cases, &mut body, body_size(&head));
+    with_body(rt, &head, body)?;
+    Ok(true)
 }
 
 fn main(rt: HostRuntime) -> io::Result<()> {
     let mut cases = File::open(&rt, "cases")?;
-    let mut left: usize = 4096;
-    while 0 < left {
-        if !one_case(&rt, &mut cases)? {
-            return Ok(());
+    for _ in 0..4096 {
+        if !next_case(&rt, &mut cases)? {
+            break;
         }
-        left -= 1;
     }
     Ok(())
 }

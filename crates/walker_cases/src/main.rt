@@ -2,28 +2,18 @@
 // written). Of each string every answer is printed to the end or a refusal, two further ones, and steps from places that are no packet's.
 #![tactic(auto)]
 
-ghost use Rattle.io.specs.Counts.{IsPrefixLen};
-
 use frame::{StringByte, wide};
 use rules::Step;
+use std::fmt::Write;
 use std::fs::File;
 use std::io;
+use text::Line;
 use walker::Walked;
 
-fn put_step(out: &mut [u8], s: Step, at: u64) -> usize
-    ensures { IsPrefixLen result out.new }
-{
-    let a = text::put_number(out, 0, s.number);
-    let b = text::put_labelled(out, a, b" ", s.place);
-    let c = text::put_labelled(out, b, b" ", s.length);
-    let d = text::put_labelled(out, c, b" ", at);
-    text::put(out, d, b'\n')
-}
-
 fn print_step(rt: &impl Print, s: Step, at: u64) -> io::Result<()> {
-    let mut line = [0u8; 96];
-    let n = put_step(&mut line, s, at);
-    rt.write_all(&line[..n])
+    let mut line = Line::<96>::new();
+    let _ = write!(line, "{} {} {} {at}\n", s.number, s.place, s.length);
+    rt.write_all(line.as_bytes())
 }
 
 fn print_walked(rt: &impl Print, w: Walked) -> io::Result<()> {
@@ -65,36 +55,23 @@ fn length_of(high: u8, low: u8) -> usize {
     wide(high) * 256 + wide(low)
 }
 
-// The next string: its system, its length in two bytes, its bytes.
-fn next_case(
-    rt: &impl Print,
-    cases: &mut File,
-    head: &mut [u8],
-    body: &mut [u8],
-) -> io::Result<bool> {
-    if files::read_next(cases, head, 3) < 3 {
-        return Ok(false);
-    }
-    if head.len() < 3 {
-        return Ok(false);
-    }
-    let system = wide(head[0]) as u64;
-    let n = files::read_next(cases, body, length_of(head[1], head[2]));
-    print_case(rt, system, &body[..n])?;
-    Ok(true)
-}
-
-fn one_case(rt: &impl Print, cases: &mut File) -> io::Result<bool> {
+// The next string: its system, its length in two bytes, its bytes. False where there is none.
+fn print_next(rt: &impl Print, cases: &mut File) -> io::Result<bool> {
     let mut head = [0u8; 3];
+    if files::read_next(cases, &mut head, 3).len() < 3 {
+        return Ok(false);
+    }
     let mut body = [0u8; 65536];
-    next_case(rt, cases, &mut head, &mut body)
+    let string = files::read_next(cases, &mut body, length_of(head[1], head[2]));
+    print_case(rt, wide(head[0]) as u64, string)?;
+    Ok(true)
 }
 
 fn main(rt: HostRuntime) -> io::Result<()> {
     let mut cases = File::open(&rt, "cases")?;
     for _ in 0..4096 {
-        if !one_case(&rt, &mut cases)? {
-            return Ok(());
+        if !print_next(&rt, &mut cases)? {
+            break;
         }
     }
     Ok(())

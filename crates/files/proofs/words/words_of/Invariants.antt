@@ -1,9 +1,0 @@
--- `files::words::words_of` meets its contract: each index is within the text.
-use Rattle.std.proofs.Common.{length, ◌≤◌}
-use Rattle.files.proofs.words.words_of.Given as goal
-
-abbrev pub invariant-loop-n : goal.invariant-loop-n
-invariant-loop-n l = l.n ≤ length l.text
-
-abbrev pub decreases-loop-n : goal.decreases-loop-n
-decreases-loop-n l = l.n

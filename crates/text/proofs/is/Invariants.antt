@@ -1,9 +1,0 @@
--- `text::is` meets its contract: both texts have the bytes that are compared.
-use Rattle.std.proofs.Common.{length, ◌-◌, ◌≤◌}
-use Rattle.text.proofs.is.Given as goal
-
-abbrev pub invariant-loop-i : goal.invariant-loop-i
-invariant-loop-i l = l.i ≤ length l.a
-
-abbrev pub decreases-loop-i : goal.decreases-loop-i
-decreases-loop-i l = length l.a - l.i
