@@ -19,8 +19,8 @@ fn is(rt: &HostRuntime, i: usize, word: &[u8]) -> bool {
     arguments::word(rt, i).as_bytes() == word
 }
 
-// `--ten` stands behind all other arguments, of which i is the last. In its place it is refused, so that no file gets that name where one was forgotten.
-// None where the command is called otherwise.
+// `--ten` stands behind all other arguments, of which i is the last. In place of that it is refused, so that no file gets that name where one was
+// forgotten. None where the command is called otherwise.
 fn samples(rt: &HostRuntime, i: usize, count: usize) -> Option<Samples>
     requires { i ≤ 5 }
 {
