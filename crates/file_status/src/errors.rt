@@ -19,8 +19,6 @@ pub const ENOSPC: i32 = 28;
 
 pub const ENAMETOOLONG: i32 = 36;
 
-pub const ELOOP: i32 = 40;
-
 // A name that is not UTF-8.
 pub const EILSEQ: i32 = 84;
 

@@ -41,7 +41,7 @@ fn follow_link(rt: &HostRuntime, path: &Path) -> io::Result<Option<Path>> {
 // How often a link is looked for: the system follows 40, and the last look finds none.
 const LOOKS: usize = 41;
 
-// Follows links until none is left: the path of the file. A path that has no room is as long as a path cannot be.
+// Follows links until none is left: the path of the file. One that has no room is as long as a path cannot be; so is told, too, what has more links.
 fn follow_links(rt: &HostRuntime, name: &[u8]) -> io::Result<Path> {
     let mut path = Path::of(name);
     for _ in 0..LOOKS {
