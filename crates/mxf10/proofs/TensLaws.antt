@@ -10,7 +10,7 @@ use mathlib.Core.Bool.{true}
 use mathlib.Core.List.{List, [], ◌∷◌, ◌++◌}
 use native.Mathlib.Omega.{arith}
 use native.Mathlib.Numerals.{add-one, add-two, add-three}
-use lib.ListN.{length, get_or, take, drop, set, drop_of_length-le}
+use lib.ListN.{length, get_or, take, drop, set}
 use lib.Seq.{sets, drop-cons, length-take-le}
 use borrow.Author.Tests.{leb-true, le-leb}
 use Rattle.rules.specs.Base.{Bytes}
@@ -57,12 +57,6 @@ module _ (a b c : ℕ) (hb : b < 1024) (hc : c < 1024) where
 
   pub four-packed : four (packed a b c) ≡ bytes_of
   four-packed = rw (byte-0, byte-1, byte-2, byte-3)
-
-  -- stored one after the other
-  pub three-put : (out : List ℕ) (at : ℕ)
-      → set (set (set (set out at (a / 4)) (at + 1) (a % 4 * 64 + b / 16)) (at + 2) (b % 16 * 16 + c / 64)) (at + 3) (c % 64 * 4)
-      ≡ sets out at (four (packed a b c))
-  three-put out at = rw (add-one at, add-two at, add-three at) (ap (sets out at) (sym four-packed))
 
   -- and back
   pub packed-back : unpacked (four_in (four (packed a b c)) 0) ≡ a ∷ b ∷ c ∷ []
@@ -190,6 +184,10 @@ module _ (s : List ℕ) (i : ℕ) where
 pub pack-all : (ws out : List ℕ) → length out ≡ array_for ten (length ws) → sets out 0 (tens ws) ≡ tens ws
 pack-all ws out h = over-all (tens ws) out (h ∙ sym (tens-length ws))
 
+-- the same at other names of the places
+pub pack-at : (ws out goal : List ℕ) (i o j p : ℕ) → i ≡ j → o ≡ p → sets out o (tens (drop i ws)) ≡ goal → sets out p (tens (drop j ws)) ≡ goal
+pack-at ws out goal i o j p e f was = sym (ap₂ (λ (n m : ℕ). sets out n (tens (drop m ws))) f e) ∙ was
+
 module _ (ws out goal : List ℕ) (i o : ℕ) (was : sets out o (tens (drop i ws)) ≡ goal) where
   abbrev a : ℕ
   a = get_or ws i 0
@@ -210,26 +208,17 @@ module _ (ws out goal : List ℕ) (i o : ℕ) (was : sets out o (tens (drop i ws
       ∙ sym (sets-append (four (packed a b c)) (tens (drop (i + 3) ws)) out o)
       ∙ left (a ∷ b ∷ c ∷ drop (i + 3) ws) (drop-three ws i h)
 
-  -- two that are left, one, or none
-  pub pack_two : i + 2 ≡ length ws → sets out o (four (packed a b 0)) ≡ goal
-  pack_two h =
-      let none : drop (i + 2) ws ≡ [] = drop_of_length-le ws {i = i + 2} (omega arith) in
-      left (a ∷ b ∷ []) (drop-two ws i (omega arith) ∙ ap (λ (r : List ℕ). a ∷ b ∷ r) none)
-
-  pub pack_one : i + 1 ≡ length ws → sets out o (four (packed a 0 0)) ≡ goal
-  pack_one h =
-      let none : drop (i + 1) ws ≡ [] = drop_of_length-le ws {i = i + 1} (omega arith) in
-      left (a ∷ []) (drop-one ws i (omega arith) ∙ ap (λ (r : List ℕ). a ∷ r) none)
-
-  pub pack-none : length ws ≤ i → out ≡ goal
-  pack-none h = left [] (drop_of_length-le ws h)
-
 -- ---- the loop of `unpack`: the samples of the bytes that are left, n - i of them, stored behind the others, give the whole
 
 pub unpack-all : (s out : List ℕ) (n m : ℕ) → n ≡ length out → m ≡ n → array_for ten n ≤ length s
     → sets out 0 (take m (samples_in s)) ≡ take n (samples_in s)
 unpack-all s out n m e f h =
     rw f (over-all (take n (samples_in s)) out (sym e ∙ sym (length-take-le n (samples_in s) (samples-length s n h))))
+
+-- the same at other names of the places
+pub unpack-at : (s out goal : List ℕ) (n i o j p : ℕ) → i ≡ j → o ≡ p → sets out i (take (n - i) (samples_in (drop o s))) ≡ goal
+    → sets out j (take (n - j) (samples_in (drop p s))) ≡ goal
+unpack-at s out goal n i o j p e f was = sym (ap₂ (λ (m k : ℕ). sets out m (take (n - m) (samples_in (drop k s)))) e f) ∙ was
 
 module _ (s out goal : List ℕ) (n i o : ℕ) (bytes : Bytes s) (was : sets out i (take (n - i) (samples_in (drop o s))) ≡ goal)
     (h : o + 4 ≤ length s) where

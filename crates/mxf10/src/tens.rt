@@ -27,19 +27,16 @@ pub fn pack(ws: &[u16], out: &mut [u8])
     requires { (are_ten ws.now ≡ true) × (length out.old ≡ array_for ten (length ws.now)) }
     ensures { out.new ≡ tens ws.now }
 {
-    let mut i = 0;
-    let mut o = 0;
-    while i + 3 <= ws.len() {
-        put_three(ws[i], ws[i + 1], ws[i + 2], out, o);
-        i += 3;
-        o += 4;
+    let threes = ws.len() / 3;
+    for k in 0..threes {
+        let i = 3 * k;
+        put_three(ws[i], ws[i + 1], ws[i + 2], out, 4 * k);
     }
-    if i + 2 == ws.len() {
-        put_three(ws[i], ws[i + 1], 0, out, o);
-        return;
-    }
-    if i + 1 == ws.len() {
-        put_three(ws[i], 0, 0, out, o);
+    let i = 3 * threes;
+    match ws.len() % 3 {
+        2 => put_three(ws[i], ws[i + 1], 0, out, 4 * threes),
+        1 => put_three(ws[i], 0, 0, out, 4 * threes),
+        _ => {}
     }
 }
 
@@ -67,22 +64,23 @@ pub fn unpack(s: &[u8], out: &mut [u16])
     requires { array_for ten (length out.old) ≤ length s.now }
     ensures { out.new ≡ take (length out.old) (samples_in s.now) }
 {
-    let mut i = 0;
-    let mut o = 0;
-    while i + 3 <= out.len() {
+    let threes = out.len() / 3;
+    for k in 0..threes {
+        let i = 3 * k;
+        let o = 4 * k;
         out[i] = first(s[o], s[o + 1]);
         out[i + 1] = second(s[o + 1], s[o + 2]);
         out[i + 2] = third(s[o + 2], s[o + 3]);
-        i += 3;
-        o += 4;
     }
-    if i + 2 == out.len() {
-        out[i] = first(s[o], s[o + 1]);
-        out[i + 1] = second(s[o + 1], s[o + 2]);
-        return;
-    }
-    if i + 1 == out.len() {
-        out[i] = first(s[o], s[o + 1]);
+    let i = 3 * threes;
+    let o = 4 * threes;
+    match out.len() % 3 {
+        2 => {
+            out[i] = first(s[o], s[o + 1]);
+            out[i + 1] = second(s[o + 1], s[o + 2]);
+        }
+        1 => out[i] = first(s[o], s[o + 1]),
+        _ => {}
     }
 }
 
