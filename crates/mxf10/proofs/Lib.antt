@@ -1,7 +1,7 @@
 -- The laws of this crate.
 --
 --   Figures       the definitions give the elements that were written out by hand
---   TensLaws      ten-bit samples in bytes, and each way through the code of `tens`
+--   TensLaws      ten-bit samples in bytes, and the loops of `tens`
 --   Elements      an element is read as it was written, and what is read was written so
 --   Accepting     the contract of reading
 --   Ours          the way back of what we write

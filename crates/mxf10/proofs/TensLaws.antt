@@ -253,8 +253,3 @@ module _ (s out goal : List ℕ) (n i o : ℕ) (bytes : Bytes s) (was : sets out
 
   pub unpack-one : (u : ℕ) → u ≡ x → i + 1 ≡ n → set out i u ≡ goal
   unpack-one u eu e = rw eu (there 1 (omega arith))
-
-pub unpack-none : (s out goal : List ℕ) (n i o : ℕ) → sets out i (take (n - i) (samples_in (drop o s))) ≡ goal → n ≤ i → out ≡ goal
-unpack-none s out goal n i o was h =
-    let e : 0 ≡ n - i = omega arith in
-    ap (λ (m : ℕ). sets out i (take m (samples_in (drop o s)))) e ∙ was
