@@ -74,7 +74,7 @@ fn find_file(rt: &HostRuntime, name: &[u8]) -> Result<Option<Known>, Failed> {
 }
 
 // An output: its name, the path of the file that this leads to, through links, and what is known of the file, where there is one.
-#[derive(Clone, Copy)]
+#[derive(Drop)]
 pub struct Target<'a> {
     name: &'a [u8],
     path: Path,
