@@ -121,6 +121,8 @@ fn is_sound(lines: &[u64; 32], s: &[u8]) -> bool
 }
 
 // "14 is given if fewer than 7 or fewer than DC + 7 bytes remain", then 15, 16, 20, of the packet at the front; its size where it has no fault.
+// It has two callers, and each has it within its own loop: a call for each packet would cost.
+#[inline(always)]
 pub fn fault(last: Line, s: &[u8]) -> Result<usize, Refusal>
     ensures number { (y : System) → y.last ≡ last.0 → number_of (result_err result) ≡ string_fault y s.now }
     ensures size { IfOk result (λ size. (size ≡ get_or s.now 5 0 + 7) × (size ≤ length s.now)) }

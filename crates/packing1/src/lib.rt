@@ -119,7 +119,8 @@ fn lay_packet(words: &[u16], h0: u8, h1: u8, us: &mut [u8; 9360], to: usize) -> 
 }
 
 // "Packets follow each other in the next pack" (001, 4.1.1). The sheet and its room have been tested before: no packet is tested again, and
-// DC says where it ends.
+// DC says where it ends. Within laying its loop would have to share the registers.
+#[inline(never)]
 pub fn lay_fives(ls: &[u16], ws: &[u16], us: &mut [u8; 9360])
     requires { Roomy ls.now ws.now }
     ensures { LaysFives ls.now ws.now us.old us.new }

@@ -60,10 +60,10 @@ fn lay_heads(ls: &[u16], ws: &[u16], s: &mut [u8; 9000])
         → LaysString ls.now ws.now before s.new }
 {
     let mut at = 0;
-    for pair in ls.chunks_exact(2) {
-        let line = Line(pair[0]);
+    for k in 0..ls.len() / 2 {
+        let line = Line(ls[2 * k]);
         s[at] = head0(line);
-        s[at + 1] = head1(line, pair[1]);
+        s[at + 1] = head1(line, ls[2 * k + 1]);
         at += low_byte(ws[at + 5]) + 7;
     }
 }

@@ -136,15 +136,16 @@ fn look_up(table: &[u16; 256], b: u8) -> u16
     table[wide(b)]
 }
 
-// The words of a packet's bytes by the table, and the sum of these words for CS: few at a time, where `write_coded` computes many in vectors.
-// Their bits 9 are summed too, which are multiples of 512.
-fn write_looked_up(table: &[u16; 256], s: &[u8], out: &mut [u16]) -> u32
+// The words of a packet's bytes by the table, and the sum of these words, onto one that was begun, for CS: few at a time, where `write_coded` computes
+// many in vectors. Their bits 9 are summed too, which are multiples of 512.
+fn write_looked_up(table: &[u16; 256], begun: u32, s: &[u8], out: &mut [u16]) -> u32
     requires table_value { table.now ≡ word_table }
+    requires begun_bound { begun < 3072 }
     requires s_len_bound { (length s.now ≤ 255) × (length out.old ≡ length s.now) }
     ensures out_after { out.new ≡ map word s.now }
-    ensures result_value { (result % 512 ≡ sum9 (map word s.now) % 512) × (result ≤ 260865) }
+    ensures result_value { result % 512 ≡ (begun + sum9 (map word s.now)) % 512 }
 {
-    let mut sum = 0;
+    let mut sum = begun;
     for (i, b) in s.iter().enumerate() {
         let w = look_up(table, *b);
         out[i] = w;
@@ -164,7 +165,7 @@ fn write_few(table: &[u16; 256], bytes: &[u8], out: &mut [u16])
     out[0] = 0x000;
     out[1] = 0x3FF;
     out[2] = 0x3FF;
-    let sum = write_looked_up(table, bytes, &mut out[3..end]);
+    let sum = write_looked_up(table, 0, bytes, &mut out[3..end]);
     out[end] = packet::check_sum(sum);
 }
 
@@ -195,8 +196,8 @@ fn write_packet(table: &[u16; 256], s: &[u8], out: &mut [u16])
 {
     let end = s.len() - 1;
     let ids = write_head(table, s, out);
-    let sum = write_looked_up(table, &s[6..end], &mut out[6..end]);
-    out[end] = packet::check_sum(ids + sum);
+    let sum = write_looked_up(table, ids, &s[6..end], &mut out[6..end]);
+    out[end] = packet::check_sum(sum);
 }
 
 // The same where the packets are short: packet by packet and by the table, since a pass over all bytes and another over the words, in runs too

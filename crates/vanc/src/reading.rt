@@ -29,7 +29,9 @@ fn narrow(system: u64) -> u16
     system as u16
 }
 
-// "17 | the sheet is longer than its buffer": known only once the list is. On refusal the buffer "is unchanged".
+// "17 | the sheet is longer than its buffer": known only once the list is. On refusal the buffer "is unchanged". Within reading its loops would have
+// to share the registers.
+#[inline(never)]
 fn written(
     system: u64,
     found: Found,

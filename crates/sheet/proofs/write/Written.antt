@@ -337,7 +337,7 @@ module _ (s out hs : List ℕ) (h : 7 ≤ length s) (l : length out ≡ length s
         let n : length s - 4 ≡ 3 + (length s - 1 - 6) = omega arith in
         rw (n, take-add 3 (length s - 1 - 6) (drop 3 s), drop-drop 3 3 s, heads s (omega arith), hy)
 
-    pub packet-written : (ids sum cs : ℕ) → ids ≡ id_sum s → sum % 512 ≡ sum9 ys % 512 → cs ≡ check_sum (ids + sum)
+    pub packet-written : (ids sum cs : ℕ) → ids ≡ id_sum s → sum % 512 ≡ (ids + sum9 ys) % 512 → cs ≡ check_sum sum
         → set users (length s - 1) cs ≡ framed coded-words
     unfolding framed
     packet-written ids sum cs e f g =
@@ -348,9 +348,9 @@ module _ (s out hs : List ℕ) (h : 7 ≤ length s) (l : length out ≡ length s
         let n : length (set users last cs) ≡ last + 1 = length-set users last cs ∙ (omega arith) in
         let front : take last users ≡ head_of s ++ ys =
         part-front 6 (last - 6) last hs ys (omega arith) (omega arith) ∙ ap (λ (t : List ℕ). take 6 t ++ ys) hh in
-        let nine : (ids + sum) % 512 ≡ sum9 coded-words % 512 =
-        rw (e, coded-are) (three-more (word (get_or s 3 0)) (word (get_or s 4 0)) (word (get_or s 5 0)) sum (sum9 ys) f) in
-        let cs-is : cs ≡ check coded-words = g ∙ check-of-sum (ids + sum) coded-words nine in
+        let nine : (ids + sum9 ys) % 512 ≡ sum9 coded-words % 512 =
+        rw (e, coded-are) (three-more (word (get_or s 3 0)) (word (get_or s 4 0)) (word (get_or s 5 0)) (sum9 ys) (sum9 ys) refl) in
+        let cs-is : cs ≡ check coded-words = g ∙ check-of-sum sum coded-words (f ∙ nine) in
         sym (take_all (last + 1) (set users last cs) (omega arith))
         ∙ rw (add-one last) (take-suc-set users last cs (omega arith))
         ∙ ap (λ (t : List ℕ). t ++ cs ∷ []) front

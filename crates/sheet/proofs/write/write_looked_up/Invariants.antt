@@ -7,5 +7,5 @@ abbrev pub invariant-loop-i : goal.invariant-loop-i
 invariant-loop-i l =
     (length l.out ≡ length l.initial.out)
     × (take l.i l.out ++ map word (drop l.i l.s) ≡ map word l.s)
-    × (l.sum ≤ 1023 * l.i)
-    × ((l.sum + sum9 (map word (drop l.i l.s))) % 512 ≡ sum9 (map word l.s) % 512)
+    × (l.sum ≤ l.begun + 1023 * l.i)
+    × ((l.sum + sum9 (map word (drop l.i l.s))) % 512 ≡ (l.begun + sum9 (map word l.s)) % 512)
