@@ -1,11 +1,12 @@
 // Reading an area to a sheet (document 01, "Numbers given back": 3, 4, 13, then packet by packet 5, 14, 15, 16, then 17).
-ghost use Rattle.std.specs.Prelude.{◌≡◌, ℕ, true, ◌≤◌, ◌<◌, Ok, Err, take};
+ghost use Rattle.std.specs.Prelude.{◌≡◌, ℕ, true, ◌≤◌, ◌<◌, Ok, Err, length, take};
 ghost use Rattle.rules.specs.Base.{sum, Bytes};
 ghost use Rattle.rules.specs.Systems.{System, known, system as systemOf};
 ghost use Rattle.rules.specs.Blocks.{block_sizes};
 ghost use Rattle.rules.specs.Numbers.{Outcome};
 ghost use Rattle.rules.specs.Reading.{packets_of_opened, packets_of_user_bytes, packing_found};
 ghost use Rattle.rules.specs.Demands.{Reads};
+ghost use Rattle.sheet.specs.Write.{wrote, sheet_after};
 ghost use Rattle.packing2.specs.Unlong.{opened_from};
 ghost use Rattle.vanc.specs.Read.{Back, Shows, Finds, back_of};
 
@@ -29,9 +30,17 @@ fn narrow(system: u64) -> u16
     system as u16
 }
 
-// "17 | the sheet is longer than its buffer": known only once the list is. On refusal the buffer "is unchanged". Within reading its loops would have
-// to share the registers.
+// The sheet of a string's packets at the start of the buffer, and how many numbers it has. Within reading its loops would have to share the registers.
 #[inline(never)]
+fn write_sheet(system: u64, us: &[u8; 9360], end: usize, sheet: &mut [u16]) -> Option<usize>
+    requires { system ≤ 3 }
+    ensures value { result ≡ wrote system (take end us.now) (length sheet.old) }
+    ensures sheet_after { sheet.new ≡ sheet_after system (take end us.now) sheet.old }
+{
+    sheet::write_sheet(narrow(system), us, end, sheet)
+}
+
+// "17 | the sheet is longer than its buffer": known only once the list is. On refusal the buffer "is unchanged".
 fn written(
     system: u64,
     found: Found,
@@ -41,7 +50,7 @@ fn written(
     requires { system ≤ 3 }
     ensures { (o : Outcome) (k : ℕ) → Finds k o (Ok found) us.now → Back system k sheet.old o (back_of result) sheet.new }
 {
-    let Some(numbers) = sheet::write_sheet(narrow(system), us, found.string.end, sheet) else {
+    let Some(numbers) = write_sheet(system, us, found.string.end, sheet) else {
         return Err(refused(Refusal::Buffer));
     };
     Ok(ReadBack {

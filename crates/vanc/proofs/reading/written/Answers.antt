@@ -7,12 +7,12 @@ pub returns-in_default : goal.returns-in_default
 returns-in_default c =
     λ o k w.
     let v = c.in_default.ensures in
-    found-over c.args.system k c.args.found c.args.us.now c.args.sheet.now _ o w c.told-us _ c.narrow.ensures _ v.value v.sheet_after
+    found-over c.args.system k c.args.found c.args.us.now c.args.sheet.now _ o w c.told-us _ refl _ v.value v.sheet_after
     c.refused.result refl c.refused.ensures
 
 pub returns : goal.returns
 returns c =
     λ o k w.
     let v = c.in-Some.ensures in
-    found-written c.args.system k c.args.found c.args.us.now c.args.sheet.now _ o w c.told-us _ c.narrow.ensures _ v.value v.sheet_after
+    found-written c.args.system k c.args.found c.args.us.now c.args.sheet.now _ o w c.told-us _ refl _ v.value v.sheet_after
     c.in-Some.numbers refl
