@@ -215,6 +215,28 @@ pub struct Input<'a> {
     pub bytes: &'a [u8],
 }
 
+// The bytes of the file with a name, which is at a path, as many as the buffer has room for. Where it cannot be read, or is the file of the output,
+// that is said.
+fn read_at<'a>(
+    rt: &HostRuntime,
+    name: &[u8],
+    path: &[u8],
+    output: Option<&Target>,
+    buf: &'a mut [u8],
+) -> Result<&'a [u8], Failed>
+    ensures { IfOk result (λ bytes. length bytes.now ≤ length buf.old) }
+{
+    let mut file = match open(rt, path) {
+        Ok(file) => file,
+        Err(e) => return Err(fail_by(rt, name, "", e)),
+    };
+    tell_apart(rt, &file, name, output)?;
+    match read_all(&mut file, buf) {
+        Ok(bytes) => Ok(bytes),
+        Err(cut) => Err(fail_by(rt, name, "", cut.error)),
+    }
+}
+
 // The file with a name, as many bytes as the buffer has room for. Where it cannot be read, or is the file of the output, that is said.
 pub fn read_file<'a>(
     rt: &HostRuntime,
@@ -224,13 +246,6 @@ pub fn read_file<'a>(
 ) -> Result<Input<'a>, Failed>
     ensures { IfOk result (λ input. length input.bytes.now ≤ length buf.old) }
 {
-    let mut file = match open(rt, name) {
-        Ok(file) => file,
-        Err(e) => return Err(fail_by(rt, name, "", e)),
-    };
-    tell_apart(rt, &file, name, output)?;
-    match read_all(&mut file, buf) {
-        Ok(bytes) => Ok(Input { name, bytes }),
-        Err(cut) => Err(fail_by(rt, name, "", cut.error)),
-    }
+    let bytes = read_at(rt, name, name, output, buf)?;
+    Ok(Input { name, bytes })
 }

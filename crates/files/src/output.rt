@@ -1,5 +1,7 @@
 // The file that an output's name leads to, and how it is replaced.
-use crate::{Failed, fail, fail_by, limits};
+ghost use Rattle.std.specs.Prelude.{◌≡◌, ◌≤◌, length, take, IfOk};
+
+use crate::{Failed, fail, fail_by, limits, read_at};
 use file_status::errors::{EEXIST, ENAMETOOLONG, ENOENT, number_of};
 use file_status::{Kind, Known, PATH_MAX, link_at, path_text};
 use std::fs::{File, OpenOptions, Permissions};
@@ -14,7 +16,10 @@ use text::Line;
 type Path = Line<PATH_MAX>;
 
 // How much of a path is the folder's, with the slash behind it.
-fn folder_of(path: &[u8]) -> &[u8] {
+fn folder_of(path: &[u8]) -> &[u8]
+    ensures within { length result.now ≤ length path.now }
+    ensures front { result.now ≡ take (length result.now) path.now }
+{
     match path.iter().rposition(|&b| b == b'/') {
         Some(i) => &path[..i + 1],
         None => &path[..0],
@@ -93,6 +98,14 @@ impl<'a> Target<'a> {
 
     pub fn name(&self) -> &'a [u8] {
         self.name
+    }
+
+    // What is in the file, as many bytes as the buffer has room for. It is read at the path that is replaced, and not by its name: between the two a
+    // link may lead elsewhere. Where it cannot be read, that is said.
+    pub fn read<'b>(&self, rt: &HostRuntime, buf: &'b mut [u8]) -> Result<&'b [u8], Failed>
+        ensures { IfOk result (λ bytes. length bytes.now ≤ length buf.old) }
+    {
+        read_at(rt, self.name, self.path.as_bytes(), None, buf)
     }
 
     // Whether a file is the output's.

@@ -90,7 +90,7 @@ fn word_at(refusal: Refusal, ws: &[u16]) -> usize
 {
     match refusal {
         Refusal::Word => over_word(ws),
-        _ => packet::word_at(refusal, ws),
+        _ => packet::refused_word(refusal, ws),
     }
 }
 

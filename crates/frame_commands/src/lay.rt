@@ -46,7 +46,7 @@ fn lay_files(rt: &HostRuntime, packing: u64, sheet: &[u8], area: &[u8]) -> Ended
     let mut file = [0u8; LONGEST + 1];
     let sheet = files::read_file(rt, sheet, Some(&target), &mut file)?;
     let mut bytes = [0u8; Hd1080x50i::AREA + 1];
-    let n = files::read_file(rt, area, None, &mut bytes)?.bytes.len();
+    let n = target.read(rt, &mut bytes)?.len();
     lay_and_replace(rt, packing, sheet, &target, &mut bytes[..n])
 }
 

@@ -7,7 +7,7 @@ use Prim.Native.Nat.{ℕ, zero, suc, ◌+◌, ◌-◌, ◌*◌, ◌/◌, ◌%◌
 use mathlib.Core.Path.{◌≡◌, refl, sym, ap, ap₂, ◌∙◌}
 use mathlib.Core.Bool.{Bool, true, false, cond, not, ◌&&◌}
 use mathlib.Core.List.{List, [], ◌∷◌, map}
-use Rattle.std.proofs.Common.{Result, Ok, Err}
+use Rattle.std.proofs.Common.{Result, Ok, Err, subst}
 use native.Mathlib.Nat.{zero-add, add-zero, sub-zero, le_refl}
 use native.Mathlib.Numerals.{add-one, add-three, add_seven}
 use native.Mathlib.Omega.{arith}
@@ -57,6 +57,14 @@ from-next (suc k) ws = from-next k (drop (dc_in ws + 7) ws)
 -- the words that are lent from a place on
 abbrev pub lent : ℕ → List ℕ → List ℕ
 lent at ws = take (length ws - at) (drop at ws)
+
+-- a packet more is passed over by its size, as it is lent
+pub behind-next : (ws : List ℕ) (at n k : ℕ) → let s : List ℕ = lent at ws in drop n s ≡ drop (dc_in s + 7) s
+    → from_packet k ws ≡ drop at ws → from_packet (k + 1) ws ≡ drop (at + n) ws
+behind-next ws at n k e f =
+    let g : drop n (drop at ws) ≡ drop (dc_in (drop at ws) + 7) (drop at ws) =
+        subst (λ (s : List ℕ). drop n s ≡ drop (dc_in s + 7) s) (rest_part at ws) e in
+    ap (λ (i : ℕ). from_packet i ws) (add-one k) ∙ from-next k ws ∙ ap (λ (s : List ℕ). drop (dc_in s + 7) s) f ∙ sym g ∙ drop-drop n at ws
 
 -- ---- a row of words, in either way of testing them
 

@@ -5,7 +5,7 @@
 ghost use Rattle.std.specs.Prelude.{◌≡◌, ℕ, ◌+◌, ◌-◌, ◌*◌, ◌/◌, ◌%◌, ◌≤◌, ◌<◌, false};
 ghost use Rattle.std.specs.Prelude.{not, ◌||◌, List, eqb, ltb, length, drop};
 ghost use Rattle.rules.specs.Packet.{Packet, word, check};
-ghost use Rattle.rules.specs.Laying.{is_word, flagged, words_fault, packet_of_words, dc_in, words_before, flag_word, word_at, type_of, judged};
+ghost use Rattle.rules.specs.Laying.{is_word, flagged, words_fault, packet_of_words, dc_in, words_before, flag_word, word_at, from_packet, type_of, judged};
 ghost use Rattle.rules.specs.Refusals.{number, tell, told, told_of};
 ghost use Rattle.rules.specs.Demands.{Judges};
 ghost use Rattle.packet.specs.Run.{pass_of, run_of, check_sum, word_table, Passed, SizeOf};
@@ -315,17 +315,35 @@ fn flag_word(ws: &[u16]) -> usize
     ws.len()
 }
 
-// The word that a packet's fault names. CS stands behind DC and the user words.
-pub fn word_at(refusal: Refusal, ws: &[u16]) -> usize
-    ensures { result ≡ word_at (number refusal) ws.now }
+// The word that the number of a packet's fault names. CS stands behind DC and the user words.
+pub fn word_at(number: u64, ws: &[u16]) -> u64
+    ensures { result ≡ word_at number ws.now }
 {
-    match refusal {
-        Refusal::Flag => flag_word(ws),
-        Refusal::Word => wrong_word(ws),
-        Refusal::CutOff => ws.len(),
-        Refusal::Checksum => dc_of(ws) + 6,
+    match number {
+        7 => flag_word(ws) as u64,
+        8 => wrong_word(ws) as u64,
+        9 => ws.len() as u64,
+        10 => dc_of(ws) as u64 + 6,
         _ => 0,
     }
+}
+
+// The word that a refusal names among packets back to back, where its place is the packet.
+pub fn word_named(number: u64, place: u64, ws: &[u16]) -> u64
+    ensures { result ≡ word_at number (from_packet place ws.now) }
+{
+    let mut at = 0;
+    for _ in 0..place {
+        at += size_of(&ws[at..]);
+    }
+    word_at(number, &ws[at..])
+}
+
+// The same by the refusal.
+pub fn refused_word(refusal: Refusal, ws: &[u16]) -> usize
+    ensures { result ≡ word_at (number refusal) ws.now }
+{
+    word_at(refusal.number(), ws) as usize
 }
 
 // What is told of the packet at fault, whose words are given: it is looked at once more only then, and apart from the loop that has tested the
@@ -338,7 +356,7 @@ fn refused(place: usize, ws: &[u16]) -> Refused
     Refused {
         refusal,
         place,
-        word: word_at(refusal, ws),
+        word: refused_word(refusal, ws),
     }
 }
 
