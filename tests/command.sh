@@ -777,6 +777,14 @@ for old in true false; do
   done
 done
 
+# A link by which a file is opened that has no name any more: nothing is at the path that the link has, and an area is read where it is replaced.
+fresh_jobs
+exec 3<frame.area
+rm frame.area
+keep
+stops "/proc/self/fd/3: $absent" lay /proc/self/fd/3
+exec 3<&-
+
 # A file with two names: the other one still has the old bytes.
 for writer in "${writers[@]}"; do
   fresh_jobs

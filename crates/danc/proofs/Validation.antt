@@ -25,6 +25,7 @@ use Rattle.danc.specs.declared.Validated.{Validated}
 use Rattle.danc.specs.Answer.{counted, answer_of}
 use Rattle.danc.specs.Validated.{validated, judged_as}
 use Rattle.rules.proofs.Basics.{second-false, drop-take}
+use Rattle.rules.proofs.Strings.{string-faults}
 use Rattle.danc.proofs.Laws.{not-fill, fault-bytes, fault-room, part-whole}
 
 -- one packet more in front
@@ -34,6 +35,10 @@ answer-also at k p (listed ps) =
     let e : at + (bytes_of p + string_byte_count ps) ≡ at + bytes_of p + string_byte_count ps = omega arith in
     rw (n, e) refl
 answer-also at k p (refused n i) = refl
+
+-- no fault has a number over 20
+pub fault-small : (y : System) (s : List ℕ) → string_fault y s ≤ 20
+fault-small = string-faults (λ (n : ℕ). n ≤ 20) (omega arith) (omega arith) (omega arith) (omega arith) (omega arith)
 
 -- from what the code holds: a part of the run that the string is the front of, and the tests of it
 module _ (y : System) (room : ℕ) (us : List ℕ) (end at k : ℕ) where

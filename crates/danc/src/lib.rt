@@ -14,6 +14,10 @@ ghost use Rattle.frame.specs.Lines.{lines_of};
 ghost use Rattle.danc.specs.Header.{cs_right, line_read, line_number};
 ghost use Rattle.danc.specs.Validated.{Within, Stop, validated, judged_as};
 
+mod coded;
+
+pub use coded::{BASE, REFUSED, refusal};
+
 use frame::{LIMIT, Line, StringByte, figures_of, is_in, lines_of, may_stand, wide};
 use rules::{Refusal, Refused, Step};
 

@@ -74,6 +74,8 @@ fn read_files(
     read_and_replace(rt, samples, system, fi, element, &target)
 }
 
+// Not within its caller: the buffers of all commands would then be on the stack of each.
+#[inline(never)]
 pub fn run(rt: &HostRuntime, samples: Samples) -> Ended {
     let system = arguments::system(rt, 2);
     let fi = arguments::fi(rt, 3);

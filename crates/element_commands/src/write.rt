@@ -52,6 +52,8 @@ fn write_files(
     write_and_replace(rt, samples, fi, sheet, &target)
 }
 
+// Not within its caller: the buffers of all commands would then be on the stack of each.
+#[inline(never)]
 pub fn run(rt: &HostRuntime, samples: Samples) -> Ended {
     let fi = arguments::fi(rt, 2);
     let sheet = arguments::path(rt, 3, "SHEET");

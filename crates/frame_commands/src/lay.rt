@@ -50,6 +50,8 @@ fn lay_files(rt: &HostRuntime, packing: u64, sheet: &[u8], area: &[u8]) -> Ended
     lay_and_replace(rt, packing, sheet, &target, &mut bytes[..n])
 }
 
+// Not within its caller: the buffers of all commands would then be on the stack of each.
+#[inline(never)]
 pub fn run(rt: &HostRuntime) -> Ended {
     let packing = arguments::number(rt, 2, "PACKING: ");
     let sheet = arguments::path(rt, 3, "SHEET");

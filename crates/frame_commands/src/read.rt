@@ -48,6 +48,8 @@ fn read_files(rt: &HostRuntime, system: u64, area: &[u8], sheet: &[u8]) -> Ended
     read_and_replace(rt, system, area, &target)
 }
 
+// Not within its caller: the buffers of all commands would then be on the stack of each.
+#[inline(never)]
 pub fn run(rt: &HostRuntime) -> Ended {
     let system = arguments::system(rt, 2);
     let area = arguments::path(rt, 3, "AREA");

@@ -29,6 +29,27 @@ fn tested(file: &[u8], s: &mut [u16; NUMBERS]) -> Tested
 // The text of a file, as far as there is room.
 pub type Text = Line<ROOM>;
 
+// A number, and what stands behind it. The numbers of a row are not put by `write!`, which takes more time than all else that is done for a packet.
+fn put_number(out: &mut Text, n: usize, behind: u8) {
+    let mut is_begun = false;
+    for power in [10000, 1000, 100, 10, 1] {
+        let digit = n / power % 10;
+        is_begun |= digit != 0 || power == 1;
+        if is_begun {
+            out.push(b'0' + digit as u8);
+        }
+    }
+    out.push(behind);
+}
+
+// "two upper-case hex digits", and a space.
+fn put_hex(out: &mut Text, b: u8) {
+    const DIGITS: &[u8; 16] = b"0123456789ABCDEF";
+    out.push(DIGITS[usize::from(b / 16)]);
+    out.push(DIGITS[usize::from(b % 16)]);
+    out.push(b' ');
+}
+
 // "Row: packet, line, flags, DID and SDID as two upper-case hex digits, DC.": of packet k, with its location's numbers, and its words.
 fn put_row(out: &mut Text, k: usize, location: &[u16], words: &[u16])
     requires { (2 ≤ length location.now) × (6 ≤ length words.now) }
@@ -37,7 +58,12 @@ fn put_row(out: &mut Text, k: usize, location: &[u16], words: &[u16])
     let did = packet::low(words[3]);
     let sdid = packet::low(words[4]);
     let dc = packet::low(words[5]);
-    let _ = write!(out, "{k} {line} {flags} {did:02X} {sdid:02X} {dc}\n");
+    put_number(out, k, b' ');
+    put_number(out, usize::from(line), b' ');
+    put_number(out, usize::from(flags), b' ');
+    put_hex(out, did);
+    put_hex(out, sdid);
+    put_number(out, usize::from(dc), b'\n');
 }
 
 // A row for each packet of a sheet that has passed, whose sections B and C these are. (The two tests never fail then; they keep the loop safe on any

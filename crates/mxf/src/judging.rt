@@ -53,7 +53,7 @@ fn key_fault(e: &[u8]) -> Result<(), usize>
 }
 
 // Key, length and N (004, tables 5 and 6): the place of the first fault.
-fn head_fault(e: &[u8]) -> Result<(), usize>
+pub fn head_fault(e: &[u8]) -> Result<(), usize>
     ensures fault { (o : Outcome) → head_then e.now o ≡ fault_or result o }
     ensures right { OnOk result ((22 ≤ length e.now) × (length e.now < 16777236)) }
 {
@@ -77,7 +77,7 @@ fn head_fault(e: &[u8]) -> Result<(), usize>
 }
 
 // Line, wrapping and coding of a structure that starts at place `at` (004, table 7): the place of the first fault.
-fn front_fault<S: Samples>(system: u64, last: Line, at: usize, s: &[u8]) -> Result<(), usize>
+pub fn front_fault<S: Samples>(system: u64, last: Line, at: usize, s: &[u8]) -> Result<(), usize>
     requires { at + length s.now < 4294967296 }
     ensures { last.0 ≡ (systemOf system).last → (o : Outcome) → front_then S.writer.coding system at s.now o ≡ fault_or result o }
 {

@@ -10,10 +10,10 @@ mod reading;
 mod samples;
 mod writing;
 
-pub use judging::Counted;
-pub use reading::{read, read_sheet, tell_read};
+pub use judging::{Counted, four, front_fault, head_fault, two};
+pub use reading::{allowed, read, read_sheet, tell_read, write_locations};
 pub use samples::{Eight, Samples};
-pub use writing::{Measured, tell_written, write, write_sheet};
+pub use writing::{Measured, put_fields, put_head, serves, tell_written, write, write_sheet};
 
 // 004, table 6.
 const KEY: [u8; 16] = [
@@ -24,13 +24,13 @@ const KEY: [u8; 16] = [
 const LONG_FORM: u8 = 0x83;
 
 // Bytes before the first structure: key, length, N.
-const HEAD: usize = 22;
+pub const HEAD: usize = 22;
 
 // Bytes of a structure before its samples: line, wrapping, coding, sample count, array count, array element length (004, table 7).
-const FIELDS: usize = 14;
+pub const FIELDS: usize = 14;
 
 // "Wrapping is VANC frame for 1080, VANC progressive frame for 720" (document 02, A1).
-fn wrapping(system: u64) -> u8
+pub fn wrapping(system: u64) -> u8
     ensures { result ≡ wrappingOf system }
 {
     if system == 3 {

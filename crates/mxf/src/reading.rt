@@ -41,7 +41,7 @@ fn flags_of<S: Samples>(first: u16, coding: u8) -> u16
 }
 
 // "P pairs: line .. and flags".
-fn write_locations<S: Samples>(system: u64, fi: bool, n: usize, s: &[u8], out: &mut [u16])
+pub fn write_locations<S: Samples>(system: u64, fi: bool, n: usize, s: &[u8], out: &mut [u16])
     requires judged { Judged S.writer.coding system fi n s.now }
     requires out_len { length out.old ≡ 2 * n }
     ensures { out.new ≡ locations (packets_of_structures S.writer.coding system fi n s.now) }
@@ -91,7 +91,7 @@ fn write_sections<S: Samples>(system: u64, fi: bool, packets: usize, s: &[u8], o
 }
 
 // 20, "a line in the frame that isn't allowed" (document 02, A3): how many packets in front of the first, of an element that has been judged.
-fn allowed(last: Line, n: usize, s: &[u8]) -> usize
+pub fn allowed(last: Line, n: usize, s: &[u8]) -> usize
     requires { Found n s.now }
     ensures { (t : Found n s.now) (y : System) → y.last ≡ last.0
         → result ≡ in_front (location_allowed y) (locations (packets_of_structures t.coding t.sys t.fi n s.now)) }

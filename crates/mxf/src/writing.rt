@@ -48,7 +48,7 @@ pub fn tell_written(r: Result<Measured, Refused>) -> ElementWritten
 }
 
 // "For 720/60p one call serves one FI value and passes over packets of the other." Flags: "bit 0 is FI".
-fn serves(system: u64, fi: bool, flags: u16) -> bool
+pub fn serves(system: u64, fi: bool, flags: u16) -> bool
     ensures { result ≡ servesFlags system fi flags }
 {
     if system != 3 {
@@ -108,7 +108,7 @@ fn coding_of<S: Samples>(flags: u16) -> u8
 
 // The fields of a structure before its array's bytes (004, table 7). These are few: the high halves of the array's count and element length
 // are 0.
-fn put_fields(line: Line, wrapping: u8, coding: u8, samples: u16, array: u16, out: &mut [u8])
+pub fn put_fields(line: Line, wrapping: u8, coding: u8, samples: u16, array: u16, out: &mut [u8])
     requires { 14 ≤ length out.old }
     ensures { out.new ≡ sets out.old 0 (two line.0 ++ wrapping ∷ coding ∷ two samples ++ four array ++ four 1) }
 {
@@ -183,7 +183,7 @@ fn put_key(out: &mut [u8])
 
 // Key, length and N (004, tables 5 and 6). "The value of the length property shall be the length of the ANC Element Value": of the bytes
 // after it, N included.
-fn put_head(packets: u16, out: &mut [u8])
+pub fn put_head(packets: u16, out: &mut [u8])
     requires { (22 ≤ length out.old) × (length out.old < 16777216) }
     ensures { (n : ℕ) → length out.old ≡ 20 + n
         → out.new ≡ (key ++ 0x83 ∷ three n ++ two packets) ++ drop 22 out.old }

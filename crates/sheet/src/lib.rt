@@ -124,7 +124,7 @@ fn placed(last: Line, p: usize, ls: &[u16]) -> usize
 }
 
 // "after 6 on all locations" 20 (document 02, A3), of P locations of which the k-th is the first that is not in its place.
-fn location_fault(last: Line, p: usize, k: usize, ls: &[u16]) -> Refused
+pub fn location_fault(last: Line, p: usize, k: usize, ls: &[u16]) -> Refused
     requires { length ls.now ≡ 2 * p }
     ensures { (y : System) → y.last ≡ last.0 → k ≡ in_front (in_place y) ls.now → (k ≡ p → ⊥)
         → (o : Outcome) → Misplaced result (location_tests y ls.now o) }

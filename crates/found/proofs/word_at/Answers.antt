@@ -18,4 +18,4 @@ returns-in-Word c = rw c.in-Word.is c.over_word.ensures
 
 pub returns-in_default : goal.returns-in_default
 unfolding found_word_at
-returns-in_default c = rw (not-eight c.args.refusal c.in_default.not-Word) c.word_at.ensures
+returns-in_default c = rw (not-eight c.args.refusal c.in_default.not-Word) c.refused_word.ensures
