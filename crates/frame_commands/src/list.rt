@@ -41,6 +41,8 @@ fn list_input(rt: &HostRuntime) -> Ended {
     list(rt, read_input(rt, &mut file)?)
 }
 
+// Not within its caller: the buffers of all commands would then be on the stack of each.
+#[inline(never)]
 pub fn run(rt: &HostRuntime, count: usize) -> Ended {
     if count == 2 {
         return list_input(rt);

@@ -3,6 +3,7 @@
 #![tactic(auto)]
 
 use console::arguments;
+use listing::Text;
 use std::io;
 use std::io::Print;
 use text::Line;
@@ -20,7 +21,8 @@ fn list_input(rt: &HostRuntime) {
     let mut buf = [0u8; sheet_file::LONGEST + 1];
     match files::read_input(rt, &mut buf) {
         Ok(file) => {
-            let text = listing::listing(file);
+            let mut text = Text::new();
+            listing::listing(file, &mut text);
             if let Err(e) = files::print(rt, text.as_bytes()) {
                 fail(rt, b"standard output", e);
             }

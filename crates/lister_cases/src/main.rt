@@ -3,6 +3,7 @@
 #![tactic(auto)]
 
 use frame::wide;
+use listing::Text;
 use std::fs::File;
 use std::io;
 
@@ -23,7 +24,9 @@ fn list_next(rt: &impl Print, cases: &mut File) -> io::Result<bool> {
     }
     let mut buf = [0u8; ROOM];
     let file = files::read_next(cases, &mut buf, size(&head));
-    rt.write_all(listing::listing(file).as_bytes())?;
+    let mut text = Text::new();
+    listing::listing(file, &mut text);
+    rt.write_all(text.as_bytes())?;
     Ok(true)
 }
 

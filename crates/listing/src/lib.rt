@@ -116,10 +116,8 @@ fn put_text(out: &mut Text, file: &[u8], s: &[u16; NUMBERS], t: Tested) {
     }
 }
 
-// The text alone.
-pub fn listing(file: &[u8]) -> Text {
+// The text alone. It is put where it stays: a text that is given back is copied.
+pub fn listing(file: &[u8], out: &mut Text) {
     let mut s = [0u16; NUMBERS];
-    let mut out = Text::new();
-    list(file, &mut s, &mut out);
-    out
+    list(file, &mut s, out);
 }
