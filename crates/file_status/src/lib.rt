@@ -3,7 +3,7 @@
 // No contract can say what the system answers, so the public ones say only in what ranges the numbers are.
 #![tactic(auto)]
 
-ghost use Rattle.std.specs.Prelude.{◌<◌, ◌≡◌, eqb};
+ghost use Rattle.std.specs.Prelude.{◌<◌, ◌≤◌, ◌≡◌, eqb, length, IfOk, IfSome};
 ghost use Rattle.std.specs.Fs.{metadata_mode};
 
 use errors::{EILSEQ, EINVAL, ENOENT};
@@ -136,13 +136,29 @@ fn is_no_link(error: io::Error) -> bool {
     matches!(errors::number_of(error), EINVAL | ENOENT)
 }
 
-// What the link that a path leads to names; none where there is no link. An error where it is not known whether there is one.
-pub fn link_at<R: Files + Alloc>(rt: &R, path: &[u8]) -> io::Result<Option<PathBuf<R::A>>> {
+// Puts a name at the start of a buffer, as much as it has room for.
+fn put<'a>(name: &[u8], to: &'a mut [u8]) -> &'a [u8]
+    ensures { length result.now ≤ length to.old }
+{
+    let n = name.len().min(to.len());
+    to[..n].copy_from_slice(&name[..n]);
+    &to[..n]
+}
+
+// What the link that a path leads to names, at the start of a buffer; none where there is no link. An error where it is not known whether there is
+// one.
+pub fn link_at<'a, R: Files + Alloc>(
+    rt: &R,
+    path: &[u8],
+    to: &'a mut [u8],
+) -> io::Result<Option<&'a [u8]>>
+    ensures { IfOk result (λ link. IfSome link (λ name. length name.now ≤ length to.old)) }
+{
     if path.contains(&0) {
         return Err(io::Error::from_raw_os_error(EINVAL));
     }
     match read_link(rt, path) {
-        Ok(name) => Ok(Some(name)),
+        Ok(name) => Ok(Some(put(name.as_str().as_bytes(), to))),
         Err(e) if is_no_link(e) => Ok(None),
         Err(e) => Err(e),
     }

@@ -28,10 +28,10 @@ fn folder_of(path: &[u8]) -> &[u8]
 
 // Follows one link: the path of what it names, as much as there is room for. None where the path leads to no link.
 fn follow_link(rt: &HostRuntime, path: &Path) -> io::Result<Option<Path>> {
-    let Some(link) = link_at(rt, path.as_bytes())? else {
+    let mut link = [0u8; PATH_MAX];
+    let Some(named) = link_at(rt, path.as_bytes(), &mut link)? else {
         return Ok(None);
     };
-    let named = link.as_str().as_bytes();
     if named.is_empty() {
         return Ok(None);
     }

@@ -1,5 +1,5 @@
 // The word that a refusal names (document 02, A2), in words: which of the packet's it is, what it is called (SMPTE 291), and what stands there.
-ghost use Rattle.std.specs.Prelude.{◌<◌};
+ghost use Rattle.std.specs.Prelude.{◌≤◌, ◌<◌, length};
 
 use std::fmt;
 use text::Word;
@@ -29,7 +29,9 @@ fn section_c(sheet: &[u16]) -> &[u16] {
 }
 
 // The words from packet k on: a packet has DC + 7 words. None, where the words end before it.
-fn from_packet(words: &[u16], k: u64) -> &[u16] {
+fn from_packet(words: &[u16], k: u64) -> &[u16]
+    ensures { length result.now ≤ length words.now }
+{
     let mut left = words;
     for _ in 0..k {
         let next = low_at(left, 5) + 7;
