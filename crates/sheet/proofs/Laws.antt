@@ -84,6 +84,33 @@ count_at n test i (suc p) (l ∷ f ∷ ls) o h = go (test l f) (count_at n test 
         ih ∙ rw (k, eqb-suc-suc (in_front test ls) p)
     go false ih = let k : i ≡ i + 0 = omega arith in rw (eqb-zero-suc, ← k)
 
+-- of the first n pairs, and of those behind them
+front_two : (f : ℕ → ℕ → Bool) (n : ℕ) (ls : List ℕ) → 2 * n ≤ length ls → in_front f (take (2 * n) ls) ≡ n
+    → in_front f ls ≡ n + in_front f (drop (2 * n) ls)
+front_two f zero ls h e = refl
+front_two f (suc n) [] h e = absurd (omega arith)
+front_two f (suc n) (l ∷ []) h e = absurd (omega arith)
+front_two f (suc n) (l ∷ m ∷ ls) h e = go (f l m) (front_two f n ls (omega arith)) e
+  where
+    go : (t : Bool) → (in_front f (take (2 * n) ls) ≡ n → in_front f ls ≡ n + in_front f (drop (2 * n) ls))
+        → cond t (suc (in_front f (take (2 * n) ls))) 0 ≡ suc n
+        → cond t (suc (in_front f ls)) 0 ≡ suc n + in_front f (drop (2 * n) ls)
+    go true ih e = ap suc (ih (omega arith))
+    go false ih e = absurd (omega arith)
+
+front_one : (f : ℕ → ℕ → Bool) (n : ℕ) (ls : List ℕ) → 2 * n ≤ length ls → in_front f (take (2 * n) ls) < n
+    → in_front f ls ≡ in_front f (take (2 * n) ls)
+front_one f zero ls h e = absurd (omega arith)
+front_one f (suc n) [] h e = absurd (omega arith)
+front_one f (suc n) (l ∷ []) h e = absurd (omega arith)
+front_one f (suc n) (l ∷ m ∷ ls) h e = go (f l m) (front_one f n ls (omega arith)) e
+  where
+    go : (t : Bool) → (in_front f (take (2 * n) ls) < n → in_front f ls ≡ in_front f (take (2 * n) ls))
+        → cond t (suc (in_front f (take (2 * n) ls))) 0 < suc n
+        → cond t (suc (in_front f ls)) 0 ≡ cond t (suc (in_front f (take (2 * n) ls))) 0
+    go true ih e = ap suc (ih (omega arith))
+    go false ih e = refl
+
 -- where a test holds of all pairs, so does what follows from it
 front-all : (f g : ℕ → ℕ → Bool) → ((l m : ℕ) → f l m ≡ true → g l m ≡ true) → (p : ℕ) (ls : List ℕ) → length ls ≡ 2 * p
     → in_front f ls ≡ p → in_front g ls ≡ p
