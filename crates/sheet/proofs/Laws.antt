@@ -3,7 +3,7 @@
 -- In order: the shape (2); locations (6, 20); the list (5, 6, 20, 7 to 10, 11); the sheet (2, 3).
 -- Assumes nothing.
 use Prim.Native.Nat.{ℕ, zero, suc, ◌+◌, ◌-◌, ◌*◌, ◌/◌, ◌≤◌, ◌<◌}
-use mathlib.Core.Path.{◌≡◌, refl, sym, ap, ◌∙◌}
+use mathlib.Core.Path.{◌≡◌, refl, sym, ap, ◌∙◌, subst}
 use mathlib.Core.Bool.{Bool, true, false, cond, not, ◌&&◌}
 use mathlib.Core.List.{List, [], ◌∷◌}
 use Rattle.std.proofs.Common.{Some, None, Result, Ok, Err}
@@ -12,7 +12,7 @@ use native.Mathlib.Numerals.{add-one}
 use native.Mathlib.Omega.{arith}
 use lib.Dec.{eqb, ltb, leb, eqb-suc-suc, eqb-zero-suc}
 use lib.ListN.{length, get_or, take, drop, length-drop}
-use lib.Seq.{length-take-le, drop-cons}
+use lib.Seq.{length-take-le, drop-cons, drop-drop}
 use borrow.Author.Tests.{leb-true, not-true, not-false, lt-ltb, le-ltb, le-leb, lt-leb, eq-eqb, ne_eqb}
 use Rattle.rules.specs.Systems.{System, system, stands, allowed}
 use Rattle.rules.specs.Packet.{Packet}
@@ -84,32 +84,89 @@ count_at n test i (suc p) (l ∷ f ∷ ls) o h = go (test l f) (count_at n test 
         ih ∙ rw (k, eqb-suc-suc (in_front test ls) p)
     go false ih = let k : i ≡ i + 0 = omega arith in rw (eqb-zero-suc, ← k)
 
--- of the first n pairs, and of those behind them
+-- of n pairs at most n are in front
+front_most : (f : ℕ → ℕ → Bool) (n : ℕ) (ls : List ℕ) → length ls ≡ 2 * n → in_front f ls ≤ n
+front_most f n [] h = omega arith
+front_most f n (l ∷ []) h = omega arith
+front_most f zero (l ∷ m ∷ ls) h = absurd (omega arith)
+front_most f (suc n) (l ∷ m ∷ ls) h = go (f l m) (front_most f n ls (omega arith))
+  where
+    go : (t : Bool) → in_front f ls ≤ n → cond t (suc (in_front f ls)) 0 ≤ suc n
+    go true ih = omega arith
+    go false ih = omega arith
+
+-- where all of the first n pairs are in front, so are as many of those behind them as there are of these alone
 front_two : (f : ℕ → ℕ → Bool) (n : ℕ) (ls : List ℕ) → 2 * n ≤ length ls → in_front f (take (2 * n) ls) ≡ n
     → in_front f ls ≡ n + in_front f (drop (2 * n) ls)
-front_two f zero ls h e = refl
+front_two f zero ls h e = sym (zero-add (in_front f ls))
 front_two f (suc n) [] h e = absurd (omega arith)
 front_two f (suc n) (l ∷ []) h e = absurd (omega arith)
-front_two f (suc n) (l ∷ m ∷ ls) h e = go (f l m) (front_two f n ls (omega arith)) e
+front_two f (suc n) (l ∷ m ∷ ls) h e =
+    let k : 2 * suc n ≡ suc (suc (2 * n)) = omega arith in
+    rw k (go (f l m) (front_two f n ls (omega arith)) (subst (λ (z : ℕ). in_front f (take z (l ∷ m ∷ ls)) ≡ suc n) k e))
   where
     go : (t : Bool) → (in_front f (take (2 * n) ls) ≡ n → in_front f ls ≡ n + in_front f (drop (2 * n) ls))
         → cond t (suc (in_front f (take (2 * n) ls))) 0 ≡ suc n
         → cond t (suc (in_front f ls)) 0 ≡ suc n + in_front f (drop (2 * n) ls)
-    go true ih e = ap suc (ih (omega arith))
+    go true ih e = let q = ih (omega arith) in omega arith
     go false ih e = absurd (omega arith)
 
+-- where fewer are, those behind them are none
 front_one : (f : ℕ → ℕ → Bool) (n : ℕ) (ls : List ℕ) → 2 * n ≤ length ls → in_front f (take (2 * n) ls) < n
     → in_front f ls ≡ in_front f (take (2 * n) ls)
 front_one f zero ls h e = absurd (omega arith)
 front_one f (suc n) [] h e = absurd (omega arith)
 front_one f (suc n) (l ∷ []) h e = absurd (omega arith)
-front_one f (suc n) (l ∷ m ∷ ls) h e = go (f l m) (front_one f n ls (omega arith)) e
+front_one f (suc n) (l ∷ m ∷ ls) h e =
+    let k : 2 * suc n ≡ suc (suc (2 * n)) = omega arith in
+    rw k (go (f l m) (front_one f n ls (omega arith)) (subst (λ (z : ℕ). in_front f (take z (l ∷ m ∷ ls)) < suc n) k e))
   where
     go : (t : Bool) → (in_front f (take (2 * n) ls) < n → in_front f ls ≡ in_front f (take (2 * n) ls))
         → cond t (suc (in_front f (take (2 * n) ls))) 0 < suc n
         → cond t (suc (in_front f ls)) 0 ≡ cond t (suc (in_front f (take (2 * n) ls))) 0
     go true ih e = ap suc (ih (omega arith))
     go false ih e = refl
+
+-- the pairs that are tested in one pass, behind those that have passed
+module _ (f : ℕ → ℕ → Bool) (ls : List ℕ) (p from to : ℕ) (h : length ls ≡ 2 * p) (a : from ≤ to) (b : to ≤ p)
+    (behind : in_front f ls ≡ from + in_front f (drop (2 * from) ls)) where
+  abbrev pub run : List ℕ
+  run = take (2 * to - 2 * from) (drop (2 * from) ls)
+
+  twice : 2 * to - 2 * from ≡ 2 * (to - from)
+  twice = omega arith
+
+  rest-long : 2 * (to - from) ≤ length (drop (2 * from) ls)
+  rest-long = let d = length-drop (2 * from) ls in omega arith
+
+  pub run-length : length run ≡ 2 * (to - from)
+  run-length = length-take-le (2 * to - 2 * from) (drop (2 * from) ls) (let r = rest-long in omega arith) ∙ twice
+
+  pub run-passed : in_front f run ≡ to - from → in_front f ls ≡ to + in_front f (drop (2 * to) ls)
+  run-passed e =
+      let n : in_front f (take (2 * (to - from)) (drop (2 * from) ls)) ≡ to - from =
+          subst (λ (z : ℕ). in_front f (take z (drop (2 * from) ls)) ≡ to - from) twice e in
+      let q = front_two f (to - from) (drop (2 * from) ls) rest-long n in
+      let s : 2 * from + 2 * (to - from) ≡ 2 * to = omega arith in
+      let d : drop (2 * (to - from)) (drop (2 * from) ls) ≡ drop (2 * to) ls =
+          drop-drop (2 * (to - from)) (2 * from) ls ∙ ap (λ (z : ℕ). drop z ls) s in
+      let r : in_front f (drop (2 * (to - from)) (drop (2 * from) ls)) ≡ in_front f (drop (2 * to) ls) = ap (in_front f) d in
+      omega arith
+
+  pub run-stopped : in_front f run < to - from → in_front f ls ≡ from + in_front f run
+  run-stopped e =
+      let n : in_front f (take (2 * (to - from)) (drop (2 * from) ls)) < to - from =
+          subst (λ (z : ℕ). in_front f (take z (drop (2 * from) ls)) < to - from) twice e in
+      let q = front_one f (to - from) (drop (2 * from) ls) rest-long n in
+      let r : in_front f run ≡ in_front f (take (2 * (to - from)) (drop (2 * from) ls)) =
+          ap (λ (z : ℕ). in_front f (take z (drop (2 * from) ls))) twice in
+      omega arith
+
+  pub run-all : in_front f run ≡ length run / 2 → in_front f run ≡ to - from
+  run-all e = let l = run-length in omega arith
+
+  pub run-full : (k : ℕ) → k ≡ in_front f run → to - from ≤ k → in_front f run ≡ to - from
+  run-full k e g = let m = front_most f (to - from) run run-length in omega arith
 
 -- where a test holds of all pairs, so does what follows from it
 front-all : (f g : ℕ → ℕ → Bool) → ((l m : ℕ) → f l m ≡ true → g l m ≡ true) → (p : ℕ) (ls : List ℕ) → length ls ≡ 2 * p

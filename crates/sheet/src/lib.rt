@@ -123,9 +123,9 @@ fn placed(last: Line, p: usize, ls: &[u16]) -> usize
         let to = p.min(4 * from + 64);
         let part = &ls[2 * from..2 * to];
         if !all_in_place(last, part) {
-            let k = from + in_place(last, part);
-            if k < to {
-                return k;
+            let k = in_place(last, part);
+            if k < to - from {
+                return from + k;
             }
         }
         from = to;

@@ -1,5 +1,4 @@
 -- Each number of a packet's refusal names its word, and no other number does.
-use mathlib.Core.Path.{◌≡◌}
 use native.Mathlib.Omega.{arith}
 use Rattle.rules.specs.Laying.{word_at}
 use Rattle.packet.proofs.word_at.Goals as goal

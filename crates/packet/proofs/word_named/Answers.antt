@@ -3,8 +3,6 @@ use Prim.Native.Nat.{ℕ}
 use mathlib.Core.Path.{◌≡◌, refl, sym, ap, ◌∙◌}
 use mathlib.Core.List.{List}
 use native.Mathlib.Omega.{arith}
-use lib.ListN.{length, take, drop}
-use borrow.Author.Rules.{rules}
 use Rattle.rules.specs.Laying.{word_at, from_packet}
 use Rattle.rules.proofs.Basics.{rest_part}
 use Rattle.packet.proofs.Row.{behind-next}
