@@ -112,15 +112,19 @@ fn all_in_place(last: Line, ls: &[u16]) -> bool
     false
 }
 
-// What in_place gives, of P locations: the first that is not in its place is looked for only where there is one. 64 are tested in one pass, then as
-// many as three times those before them and 64 more: so most sheets take one pass or two, and one that is refused early takes little.
-fn placed(last: Line, p: usize, ls: &[u16]) -> usize
+// How many locations one pass takes, where there are more.
+const RUN: usize = 64;
+
+// What in_place gives, of P locations, in passes: each takes as many as three times those before it and `RUN` more, so that a sheet is tested in few
+// of them, and one that is refused for its first locations is not gone over whole.
+#[inline(never)]
+fn placed_in_passes(last: Line, p: usize, ls: &[u16]) -> usize
     requires { length ls.now ≡ 2 * p }
     ensures { (y : System) → y.last ≡ last.0 → result ≡ in_front (in_place y) ls.now }
 {
     let mut from = 0;
     while from < p {
-        let to = p.min(4 * from + 64);
+        let to = p.min(4 * from + RUN);
         let part = &ls[2 * from..2 * to];
         if !all_in_place(last, part) {
             let k = in_place(last, part);
@@ -131,6 +135,20 @@ fn placed(last: Line, p: usize, ls: &[u16]) -> usize
         from = to;
     }
     p
+}
+
+// What in_place gives, of P locations: the first that is not in its place is looked for only where there is one.
+fn placed(last: Line, p: usize, ls: &[u16]) -> usize
+    requires { length ls.now ≡ 2 * p }
+    ensures { (y : System) → y.last ≡ last.0 → result ≡ in_front (in_place y) ls.now }
+{
+    if RUN < p {
+        return placed_in_passes(last, p, ls);
+    }
+    if all_in_place(last, ls) {
+        return p;
+    }
+    in_place(last, ls)
 }
 
 // "after 6 on all locations" 20 (document 02, A3), of P locations of which the k-th is the first that is not in its place.

@@ -7,7 +7,7 @@ use native.Mathlib.Omega.{arith}
 use lib.ListN.{drop, drop_of_length-le}
 use Rattle.sheet.specs.Standing.{in_front, in_place}
 use Rattle.sheet.proofs.Laws.{run-passed, run-stopped, run-all, run-full}
-use Rattle.sheet.proofs.placed.Goals as goal
+use Rattle.sheet.proofs.placed_in_passes.Goals as goal
 
 pub loop-from-init : goal.loop-from-init
 loop-from-init c = record { within = omega arith; behind = λ y e. sym (zero-add (in_front (in_place y) c.args.ls.now)); }

@@ -4,7 +4,7 @@ use mathlib.Core.Path.{◌≡◌}
 use lib.ListN.{drop}
 use Rattle.rules.specs.Systems.{System}
 use Rattle.sheet.specs.Standing.{in_front, in_place}
-use Rattle.sheet.proofs.placed.Given as goal
+use Rattle.sheet.proofs.placed_in_passes.Given as goal
 
 abbrev pub invariant-loop-from : goal.invariant-loop-from
 invariant-loop-from l =
