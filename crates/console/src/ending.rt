@@ -21,9 +21,14 @@ pub fn say_unchanged(rt: &HostRuntime) {
     files::say(rt, b"no file was changed", "");
 }
 
-// Prints the result, and ends with a status. Where it could not be printed that is said, and whether a file was written before, by its name.
-pub fn printed(rt: &HostRuntime, line: &[u8], status: Status, written: Option<&[u8]>) -> Ended {
-    match files::print(rt, line) {
+// Ends with a status, where the result is printed. Where it could not be printed that is said, and whether a file was written before, by its name.
+pub fn ended(
+    rt: &HostRuntime,
+    printed: io::Result<()>,
+    status: Status,
+    written: Option<&[u8]>,
+) -> Ended {
+    match printed {
         Ok(()) => Ok(status),
         Err(e) => {
             let failed = files::fail_by(rt, b"standard output", "", e);
@@ -36,8 +41,13 @@ pub fn printed(rt: &HostRuntime, line: &[u8], status: Status, written: Option<&[
     }
 }
 
+// Prints the result, and ends.
+pub fn printed(rt: &HostRuntime, line: &[u8], status: Status, written: Option<&[u8]>) -> Ended {
+    ended(rt, files::print(rt, line), status, written)
+}
+
 // Ends with a line. The longest has some 90 bytes, whatever the numbers are.
-fn ended(
+fn ended_with(
     rt: &HostRuntime,
     text: impl Display + Drop,
     status: Status,
@@ -50,20 +60,20 @@ fn ended(
 
 // Ends with the line that says what was done, when a file was written.
 pub fn done(rt: &HostRuntime, text: impl Display + Drop, written: &[u8]) -> Ended {
-    ended(rt, text, Status::Done, Some(written))
+    ended_with(rt, text, Status::Done, Some(written))
 }
 
 // "A refusal prints one line, as `refused 10 at 0`." So it is printed by what reads areas and elements, whose refusals name no word.
 fn refused_at(rt: &HostRuntime, number: u64, place: u64) -> Ended {
     let line = format_args!("refused {number} at {place}");
-    ended(rt, line, Status::Refused, None)
+    ended_with(rt, line, Status::Refused, None)
 }
 
 // "Laying and the lister pass the word on after the place" (document 02, A2): `refused 8 at 31 6`.
 fn refused_at_word(rt: &HostRuntime, fault: &Fault) -> Ended {
     let (number, place, word) = (fault.number, fault.place, fault.word);
     let line = format_args!("refused {number} at {place} {word}");
-    ended(rt, line, Status::Refused, None)
+    ended_with(rt, line, Status::Refused, None)
 }
 
 // What is at fault, where, and what is wrong, on standard error.

@@ -19,6 +19,9 @@ pub const ENOSPC: i32 = 28;
 
 pub const ENAMETOOLONG: i32 = 36;
 
+// More links than the system follows.
+pub const ELOOP: i32 = 40;
+
 // A name that is not UTF-8.
 pub const EILSEQ: i32 = 84;
 
