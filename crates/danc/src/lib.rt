@@ -17,7 +17,6 @@ ghost use Rattle.danc.specs.Validated.{Within, Stop, validated, judged_as};
 mod coded;
 
 pub use coded::{BASE, REFUSED, refusal};
-
 use frame::{LIMIT, Line, StringByte, figures_of, is_in, lines_of, may_stand, wide};
 use rules::{Refusal, Refused, Step};
 

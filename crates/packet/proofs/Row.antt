@@ -63,7 +63,7 @@ pub behind-next : (ws : List ℕ) (at n k : ℕ) → let s : List ℕ = lent at 
     → from_packet k ws ≡ drop at ws → from_packet (k + 1) ws ≡ drop (at + n) ws
 behind-next ws at n k e f =
     let g : drop n (drop at ws) ≡ drop (dc_in (drop at ws) + 7) (drop at ws) =
-        subst (λ (s : List ℕ). drop n s ≡ drop (dc_in s + 7) s) (rest_part at ws) e in
+    subst (λ (s : List ℕ). drop n s ≡ drop (dc_in s + 7) s) (rest_part at ws) e in
     ap (λ (i : ℕ). from_packet i ws) (add-one k) ∙ from-next k ws ∙ ap (λ (s : List ℕ). drop (dc_in s + 7) s) f ∙ sym g ∙ drop-drop n at ws
 
 -- ---- a row of words, in either way of testing them

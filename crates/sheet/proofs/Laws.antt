@@ -145,21 +145,21 @@ module _ (f : ℕ → ℕ → Bool) (ls : List ℕ) (p from to : ℕ) (h : lengt
   pub run-passed : in_front f run ≡ to - from → in_front f ls ≡ to + in_front f (drop (2 * to) ls)
   run-passed e =
       let n : in_front f (take (2 * (to - from)) (drop (2 * from) ls)) ≡ to - from =
-          subst (λ (z : ℕ). in_front f (take z (drop (2 * from) ls)) ≡ to - from) twice e in
+      subst (λ (z : ℕ). in_front f (take z (drop (2 * from) ls)) ≡ to - from) twice e in
       let q = front_two f (to - from) (drop (2 * from) ls) rest-long n in
       let s : 2 * from + 2 * (to - from) ≡ 2 * to = omega arith in
       let d : drop (2 * (to - from)) (drop (2 * from) ls) ≡ drop (2 * to) ls =
-          drop-drop (2 * (to - from)) (2 * from) ls ∙ ap (λ (z : ℕ). drop z ls) s in
+      drop-drop (2 * (to - from)) (2 * from) ls ∙ ap (λ (z : ℕ). drop z ls) s in
       let r : in_front f (drop (2 * (to - from)) (drop (2 * from) ls)) ≡ in_front f (drop (2 * to) ls) = ap (in_front f) d in
       omega arith
 
   pub run-stopped : in_front f run < to - from → in_front f ls ≡ from + in_front f run
   run-stopped e =
       let n : in_front f (take (2 * (to - from)) (drop (2 * from) ls)) < to - from =
-          subst (λ (z : ℕ). in_front f (take z (drop (2 * from) ls)) < to - from) twice e in
+      subst (λ (z : ℕ). in_front f (take z (drop (2 * from) ls)) < to - from) twice e in
       let q = front_one f (to - from) (drop (2 * from) ls) rest-long n in
       let r : in_front f run ≡ in_front f (take (2 * (to - from)) (drop (2 * from) ls)) =
-          ap (λ (z : ℕ). in_front f (take z (drop (2 * from) ls))) twice in
+      ap (λ (z : ℕ). in_front f (take z (drop (2 * from) ls))) twice in
       omega arith
 
   pub run-all : in_front f run ≡ length run / 2 → in_front f run ≡ to - from

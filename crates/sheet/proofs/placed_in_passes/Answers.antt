@@ -10,7 +10,7 @@ use Rattle.sheet.proofs.Laws.{run-passed, run-stopped, run-all, run-full}
 use Rattle.sheet.proofs.placed_in_passes.Goals as goal
 
 pub loop-from-init : goal.loop-from-init
-loop-from-init c = record { within = omega arith; behind = λ y e. sym (zero-add (in_front (in_place y) c.args.ls.now)); }
+loop-from-init c = record { within = omega arith; behind = λ y e. sym (zero-add (in_front (in_place y) c.args.ls.now)) }
 
 pub returns-then-k-to : goal.returns-then-k-to
 returns-then-k-to c y e =
@@ -19,8 +19,8 @@ returns-then-k-to c y e =
     let k = c.in_place-k.ensures y e in
     sym
     (run-stopped (in_place y) c.args.ls.now c.args.p from to c.requires (omega arith) (omega arith) (c.loop-from.invariant.behind y e)
-     (let l = c.if-k-to.true in omega arith)
-     ∙ ap (λ (n : ℕ). from + n) (sym k))
+    (let l = c.if-k-to.true in omega arith)
+    ∙ ap (λ (n : ℕ). from + n) (sym k))
 
 pub loop-from-preserved-else-k-to : goal.loop-from-preserved-else-k-to
 loop-from-preserved-else-k-to c =
