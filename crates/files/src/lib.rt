@@ -45,7 +45,8 @@ pub fn say_page(rt: &HostRuntime, page: &[u8]) {
     let _ = limits::write(rt, Stream::Error, &rt.stderr(), page);
 }
 
-// A line on standard error: what it is about, and what is wrong.
+// A line on standard error: what it is about, and what is wrong. Not within its callers: each would have the line on its stack, said or not.
+#[inline(never)]
 pub fn say(rt: &HostRuntime, what: &[u8], why: impl Display + Drop) {
     let mut line = about(what);
     let _ = write!(line, "{why}");

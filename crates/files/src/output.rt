@@ -26,33 +26,35 @@ fn folder_of(path: &[u8]) -> &[u8]
     }
 }
 
-// Follows one link: the path of what it names, as much as there is room for. None where the path leads to no link.
-fn follow_link(rt: &HostRuntime, path: &Path) -> io::Result<Option<Path>> {
+// Follows one link: the path of what it names, as much as there is room for, in the path's place. False where the path leads to no link.
+fn follow_link(rt: &HostRuntime, path: &mut Path) -> io::Result<bool> {
     let mut link = [0u8; PATH_MAX];
     let Some(named) = link_at(rt, path.as_bytes(), &mut link)? else {
-        return Ok(None);
+        return Ok(false);
     };
     if named.is_empty() {
-        return Ok(None);
+        return Ok(false);
     }
-    let mut next = Path::new();
-    if !named.starts_with(b"/") {
-        next.push_bytes(folder_of(path.as_bytes()));
-    }
-    next.push_bytes(named);
-    Ok(Some(next))
+    let folder = if named.starts_with(b"/") {
+        0
+    } else {
+        folder_of(path.as_bytes()).len()
+    };
+    path.truncate(folder);
+    path.push_bytes(named);
+    Ok(true)
 }
 
 // How often a link is looked for: the system follows 40, and the last look finds none.
 const LOOKS: usize = 41;
 
-// Follows links until none is left: the path of the file. One that has no room is as long as a path cannot be; so is told, too, what has more links.
-fn follow_links(rt: &HostRuntime, name: &[u8]) -> io::Result<Path> {
-    let mut path = Path::of(name);
+// Follows links until none is left: the path is then the file's. One that has no room is as long as a path cannot be; so is told, too, what has more
+// links.
+fn follow_links(rt: &HostRuntime, path: &mut Path) -> io::Result<()> {
     for _ in 0..LOOKS {
-        match follow_link(rt, &path) {
-            Ok(Some(next)) => path = next,
-            Ok(None) if path.len() < PATH_MAX => return Ok(path),
+        match follow_link(rt, path) {
+            Ok(true) => {}
+            Ok(false) if path.len() < PATH_MAX => return Ok(()),
             Err(e) if path.len() < PATH_MAX => return Err(e),
             _ => {
                 break;
@@ -90,8 +92,9 @@ impl<'a> Target<'a> {
     // Where nothing may be written there, that is said. Nothing is opened.
     pub fn find(rt: &HostRuntime, name: &'a [u8]) -> Result<Target<'a>, Failed> {
         let known = find_file(rt, name)?;
-        match follow_links(rt, name) {
-            Ok(path) => Ok(Target { name, path, known }),
+        let mut path = Path::of(name);
+        match follow_links(rt, &mut path) {
+            Ok(()) => Ok(Target { name, path, known }),
             Err(e) => Err(fail_by(rt, name, "", e)),
         }
     }

@@ -29,7 +29,8 @@ fn tested(file: &[u8], s: &mut [u16; NUMBERS]) -> Tested
 // The text of a file, as far as there is room.
 pub type Text = Line<ROOM>;
 
-// A number, and what stands behind it. The numbers of a row are not put by `write!`, which takes more time than all else that is done for a packet.
+// A number of sixteen bits, as all of a row are, and what stands behind it. They are not put by `write!`, which takes more time than all else that is
+// done for a packet.
 fn put_number(out: &mut Text, n: usize, behind: u8) {
     let mut is_begun = false;
     for power in [10000, 1000, 100, 10, 1] {

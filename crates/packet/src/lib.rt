@@ -5,7 +5,8 @@
 ghost use Rattle.std.specs.Prelude.{◌≡◌, ℕ, ◌+◌, ◌-◌, ◌*◌, ◌/◌, ◌%◌, ◌≤◌, ◌<◌, false};
 ghost use Rattle.std.specs.Prelude.{not, ◌||◌, List, eqb, ltb, length, drop};
 ghost use Rattle.rules.specs.Packet.{Packet, word, check};
-ghost use Rattle.rules.specs.Laying.{is_word, flagged, words_fault, packet_of_words, dc_in, words_before, flag_word, word_at, from_packet, type_of, judged};
+ghost use Rattle.rules.specs.Laying.{is_word, flagged, words_fault, packet_of_words, dc_in, words_before};
+ghost use Rattle.rules.specs.Laying.{flag_word, word_at, from_packet, type_of, judged};
 ghost use Rattle.rules.specs.Refusals.{number, tell, told, told_of};
 ghost use Rattle.rules.specs.Demands.{Judges};
 ghost use Rattle.packet.specs.Run.{pass_of, run_of, check_sum, word_table, Passed, SizeOf};
