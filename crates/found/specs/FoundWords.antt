@@ -15,6 +15,8 @@ found_words =
       long = found-long;
       enough = found-enough;
       user = λ s. refl;
-      early = λ n s h. rw (ne_eqb n 8 (λ e. omega arith), ne_eqb n 7 (λ e. omega arith), ne_eqb n 9 (λ e. omega arith), ne_eqb n 10 (λ e. omega arith));
-      late = λ n s h. rw (ne_eqb n 8 (λ e. omega arith), ne_eqb n 7 (λ e. omega arith), ne_eqb n 9 (λ e. omega arith), ne_eqb n 10 (λ e. omega arith));
+      early = λ n s h.
+          rw (ne_eqb n 8 (λ e. omega arith), ne_eqb n 7 (λ e. omega arith), ne_eqb n 9 (λ e. omega arith), ne_eqb n 10 (λ e. omega arith));
+      late = λ n s h.
+          rw (ne_eqb n 8 (λ e. omega arith), ne_eqb n 7 (λ e. omega arith), ne_eqb n 9 (λ e. omega arith), ne_eqb n 10 (λ e. omega arith));
     }

@@ -76,7 +76,8 @@ module _ (fault : List ℕ → ℕ) (packet : List ℕ → Packet) (word : ℕ �
   front left i [] h = absurd (omega arith)
   front left i (w ∷ s) h = refl
 
-  pub front-fault : (left i : ℕ) (s : List ℕ) → 0 < length s → 0 < left → (fault s ≡ 0 → ⊥) → packets_in (row_of fault packet) left i s ≡ refused (fault s) i
+  pub front-fault : (left i : ℕ) (s : List ℕ) → 0 < length s → 0 < left → (fault s ≡ 0 → ⊥)
+      → packets_in (row_of fault packet) left i s ≡ refused (fault s) i
   front-fault zero i s h l f = absurd (omega arith)
   front-fault (suc left) i s h l f = front left i s h ∙ rw (ne_eqb (fault s) 0 f)
 
@@ -86,7 +87,8 @@ module _ (fault : List ℕ → ℕ) (packet : List ℕ → Packet) (word : ℕ �
 
   module _ (w : WordLaws fault packet word) where
     pub front-fine : (left i : ℕ) (s : List ℕ) → 0 < length s → length s ≤ left → fault s ≡ 0
-        → packets_in (row_of fault packet) left i s ≡ also (packet s) (packets_in (row_of fault packet) (left - (dc_in s + 7)) (i + 1) (drop (dc_in s + 7) s))
+        → packets_in (row_of fault packet) left i s
+        ≡ also (packet s) (packets_in (row_of fault packet) (left - (dc_in s + 7)) (i + 1) (drop (dc_in s + 7) s))
     front-fine zero i s h l f = absurd (omega arith)
     front-fine (suc left) i s h l f =
         let k = length-drop (dc_in s + 7) s in
@@ -128,7 +130,8 @@ module _ (fault : List ℕ → ℕ) (packet : List ℕ → Packet) (word : ℕ �
 
       -- one packet more
       pub row_next : (dc k : ℕ) → dc ≡ get_or ws (at + 5) 0 % 256
-          → packets_from k ≡ also (packet (drop at ws)) (packets_in (row_of fault packet) (length ws - (at + (dc + 7))) (k + 1) (drop (at + (dc + 7)) ws))
+          → packets_from k
+          ≡ also (packet (drop at ws)) (packets_in (row_of fault packet) (length ws - (at + (dc + 7))) (k + 1) (drop (at + (dc + 7)) ws))
       row_next dc k e =
           let s : List ℕ = drop at ws in
           let l : length s ≡ length ws - at = length-drop at ws in
@@ -252,7 +255,8 @@ some-taken n (x ∷ s) h = rw (add_seven n) (omega arith)
 
 -- the words of a packet, as far as they are there, tested as packets back to back
 module _ (s part : List ℕ) (h : 0 < length s) (e : part ≡ take (dc_in s + 7) s) where
-  one_outcome : packets_by words_fault packet_of_words part ≡ cond (eqb (words_fault s) 0) (listed (packet_of_words part ∷ [])) (refused (words_fault s) 0)
+  one_outcome : packets_by words_fault packet_of_words part
+      ≡ cond (eqb (words_fault s) 0) (listed (packet_of_words part ∷ [])) (refused (words_fault s) 0)
   one_outcome = go (eqb (words_fault part) 0) refl ∙ ap (λ (f : ℕ). cond (eqb f 0) (listed (packet_of_words part ∷ [])) (refused f 0)) same
     where
       same : words_fault part ≡ words_fault s
@@ -268,11 +272,13 @@ module _ (s part : List ℕ) (h : 0 < length s) (e : part ≡ take (dc_in s + 7)
       some = let l = some-taken (dc_in s) s h in let m : length part ≡ length (take (dc_in s + 7) s) = ap length e in omega arith
 
       go : (b : Bool) → eqb (words_fault part) 0 ≡ b
-          → packets_by words_fault packet_of_words part ≡ cond (eqb (words_fault part) 0) (listed (packet_of_words part ∷ [])) (refused (words_fault part) 0)
+          → packets_by words_fault packet_of_words part
+          ≡ cond (eqb (words_fault part) 0) (listed (packet_of_words part ∷ [])) (refused (words_fault part) 0)
       go true z =
           rw (
             z,
-            front-fine words_fault packet_of_words word_at sound_words (length part) 0 part some (le_refl (length part)) (eqb-true (words_fault part) 0 z),
+            front-fine words_fault packet_of_words word_at sound_words (length part) 0 part some (le_refl (length part))
+                (eqb-true (words_fault part) 0 z),
             none,
             front-none words_fault packet_of_words word_at (length part - (dc_in part + 7)) (0 + 1),
           )
@@ -289,7 +295,8 @@ module _ (s part : List ℕ) (h : 0 < length s) (e : part ≡ take (dc_in s + 7)
       go true z w = absurd (cc)
       go false z w = (z, cc)
 
-  pub one_listed : {A : Type 0} (f : List Packet → A) (a : A) → Ok a ≡ told_by word_at f part (packets_by words_fault packet_of_words part) → eqb (words_fault s) 0 ≡ true
+  pub one_listed : {A : Type 0} (f : List Packet → A) (a : A) → Ok a ≡ told_by word_at f part (packets_by words_fault packet_of_words part)
+      → eqb (words_fault s) 0 ≡ true
   one_listed f a q = go (eqb (words_fault s) 0) refl (q ∙ ap (told_by word_at f part) one_outcome)
     where
       go : (b : Bool) → eqb (words_fault s) 0 ≡ b

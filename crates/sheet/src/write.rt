@@ -136,8 +136,8 @@ fn look_up(table: &[u16; 256], b: u8) -> u16
     table[wide(b)]
 }
 
-// The words of a packet's bytes by the table, and the sum of these words, onto one that was begun, for CS: few at a time, where `write_coded` computes
-// many in vectors. Their bits 9 are summed too, which are multiples of 512.
+// The words of a packet's bytes by the table, and the sum of these words, onto one that was begun, for CS: few at a time, where `write_coded`
+// computes many in vectors. Their bits 9 are summed too, which are multiples of 512.
 fn write_looked_up(table: &[u16; 256], begun: u32, s: &[u8], out: &mut [u16]) -> u32
     requires table_value { table.now ≡ word_table }
     requires begun_bound { begun < 3072 }

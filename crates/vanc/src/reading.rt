@@ -30,7 +30,8 @@ fn narrow(system: u64) -> u16
     system as u16
 }
 
-// The sheet of a string's packets at the start of the buffer, and how many numbers it has. Within reading its loops would have to share the registers.
+// The sheet of a string's packets at the start of the buffer, and how many numbers it has. Within reading its loops would have to share the
+// registers.
 #[inline(never)]
 fn write_sheet(system: u64, us: &[u8; 9360], end: usize, sheet: &mut [u16]) -> Option<usize>
     requires { system ≤ 3 }
